@@ -1,0 +1,15 @@
+pub mod Result
+pub mod AbilitySet
+pub mod SignatureToken
+pub mod Bytecode
+pub mod CompiledUnit
+pub mod Abilities
+pub mod Substitution
+pub mod Reading
+pub mod Commands
+pub mod Reader
+pub mod StackUsage
+pub mod Machine
+pub mod TypeSafety
+pub mod Verify
+pub mod Verdicts
