@@ -13,3 +13,4 @@ pub mod Machine
 pub mod TypeSafety
 pub mod Verify
 pub mod Verdicts
+pub mod Places

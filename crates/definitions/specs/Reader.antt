@@ -187,11 +187,11 @@ tableWithin (suc turns) c body = do
   more ← opens c
   elim more [
     | true ↦ (do
-        p ← here
-        byte
-        a ← body
-        rest ← tableWithin turns c body
-        give (record { start = p; item = a } ∷ rest))
+      p ← here
+      byte
+      a ← body
+      rest ← tableWithin turns c body
+      give (record { start = p; item = a } ∷ rest))
     | false ↦ give []
   ]
 
