@@ -61,7 +61,7 @@ hasStore set = hasAbility set Store
 abbrev pub hasKey : AbilitySet → Bool
 hasKey set = hasAbility set Key
 
--- `Ability::required_by`: key asks store of an argument, and passes on to nothing
+-- `Ability::required_by`, which abilities ask this one of an argument: store is asked by store and by key, key by none
 unfoldable pub requiredBy : Ability → AbilitySet
 requiredBy Copy = bit Copy
 requiredBy Drop = bit Drop

@@ -1,4 +1,4 @@
--- `Bytecode` of file_format.rs: 71 instructions in the source's order, so that the opcode of each is its place, 0 to 70.
+-- `Bytecode` of file_format.rs: 71 instructions in the source's order, which is that of the opcodes 0 to 70 (Commands, instructionForms).
 -- Loaded integers and branch targets are not kept: no rule of the two passes looks at them.
 use Prim.Native.Nat.{ℕ}
 

@@ -87,7 +87,7 @@ popN (suc n) = do
 unfoldable pub pushN : ℕ → SignatureToken → Step
 pushN zero t = done
 pushN (suc n) t = do
-  push t
+  _ ← push t
   pushN n t
 
 -- ── running ──

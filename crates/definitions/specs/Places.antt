@@ -35,7 +35,7 @@ pub data Standing (s : List ℕ) : List ℕ → Signature → Type 0 where
   none : Standing s [] []
   more : {p : ℕ} {t : SignatureToken} {ps : List ℕ} {ts : Signature} → At s p (encode t) → Standing s ps ts → Standing s (p ∷ ps) (t ∷ ts)
 
--- the record whose command stands at p is read as a
+-- the body of a record, whose command's place is p, is read as a
 pub record RecordAt {A : Type 0} (body : Reader A) (s : List ℕ) (p : ℕ) (a : A) : Type 0 where
   pub ends : ℕ
   pub reads : body s (p + 1) ≡ read a ends

@@ -32,7 +32,7 @@ readVerdict s area = reading s area (λ u. Accepted)
 
 -- "stack usage"
 unfoldable pub stackUsageVerdict : List ℕ → ℕ → Verdict
-stackUsageVerdict s area = reading s area (λ u. stackUsage u)
+stackUsageVerdict s area = reading s area stackUsage
 
 -- "types"
 unfoldable pub typesVerdict : List ℕ → ℕ → Verdict

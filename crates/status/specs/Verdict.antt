@@ -87,7 +87,7 @@ placeOf (Refused status position) = positionPlace position
 
 -- INVALID_OPERATION_IN_SCRIPT and VERIFIER_INVARIANT_VIOLATION, 16 and 17: the Rust makes these two without `at_code_offset`
 abbrev pub lacksOffset : ℕ → Bool
-lacksOffset number = eqb number 16 || eqb number 17
+lacksOffset number = eqb number (statusNumber «INVALID_OPERATION_IN_SCRIPT») || eqb number (statusNumber «VERIFIER_INVARIANT_VIOLATION»)
 
 -- the refusal of one of the two passes at a block's start or an instruction: 16 and 17 are n 0
 unfoldable pub refusal : StatusCode → Position → Verdict
