@@ -14,3 +14,8 @@ pub mod TypeSafety
 pub mod Verify
 pub mod Verdicts
 pub mod Places
+pub mod Calls
+pub mod Units
+pub mod Rows
+pub mod ReadingRows
+pub mod Checked

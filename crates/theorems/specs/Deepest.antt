@@ -7,8 +7,8 @@ use lib.ListN.{replicate}
 use Rattle.status.specs.declared.Verdict.the-variants.{Accepted}
 use Rattle.definitions.specs.SignatureToken.{SignatureToken, U8, Address, Vector, MutableReference, depth}
 use Rattle.definitions.specs.Verify.{stands}
-use Rattle.theorems.specs.Calls.{both, answer, walkOf}
-use Rattle.theorems.specs.Units.{concat, asBlock, signature}
+use Rattle.definitions.specs.Calls.{both, answer, walkOf}
+use Rattle.definitions.specs.Units.{concat, asBlock, signature}
 
 -- 31 vectors over a type
 abbrev pub vectors31 : List ℕ → List ℕ

@@ -7,9 +7,9 @@ use lib.ListN.{replicate, set, take, drop}
 use Rattle.status.specs.declared.StatusCode.the-variants.{SHORT, COMMAND, ORDER, VALUE, DEPTH, BLOCK, TRAILING, AREA}
 use Rattle.status.specs.declared.Position.the-variants.{Byte}
 use Rattle.status.specs.declared.Verdict.the-variants.{Accepted, Refused}
-use Rattle.theorems.specs.Calls.{Call, readUnit, stackUsage, types, both, answer}
-use Rattle.theorems.specs.Units.{concat, listing, emptyFunction, block, codeOf, bare}
-use Rattle.theorems.specs.Rows.{Row, row, unread, rows, answeredBy, due}
+use Rattle.definitions.specs.Calls.{Call, readUnit, stackUsage, types, both, answer}
+use Rattle.definitions.specs.Units.{concat, listing, emptyFunction, block, codeOf, bare}
+use Rattle.definitions.specs.Rows.{Row, row, unread, rows, answeredBy, due}
 
 -- a signature of one type, from byte 3 on: so many vectors, and then these bytes
 abbrev pub vectors : ℕ → List ℕ → List ℕ

@@ -9,9 +9,9 @@ use Rattle.status.specs.declared.Position.the-variants.{Byte, BlockStart, Instr
 use Rattle.status.specs.declared.Verdict.{Verdict}
 use Rattle.status.specs.declared.Verdict.the-variants.{Accepted, Refused}
 use Rattle.status.specs.Verdict.{numberOf}
 use Rattle.definitions.specs.SignatureToken.{SignatureToken, Signature, Bool′, U8, U64, Address, Signer, StructInstantiation, Reference, MutableReference, []ᵗ, _∷ᵗ_}
-use Rattle.theorems.specs.Calls.{Call, readUnit, stackUsage, types, both, answer}
-use Rattle.theorems.specs.Units.{listing, emptyFunction, block, codeOf, bare, S, K, N, withLocals, holding}
+use Rattle.definitions.specs.Calls.{Call, readUnit, stackUsage, types, both, answer}
+use Rattle.definitions.specs.Units.{listing, emptyFunction, block, codeOf, bare, S, K, N, withLocals, holding}
 
 -- a call of a unit with an area of that length, and the verdict due
 pub record Row : Type 0 where

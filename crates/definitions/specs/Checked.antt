@@ -8,18 +8,18 @@ use lib.ListN.{replicate}
 use Rattle.status.specs.declared.StatusCode.the-variants.{«INTEGER_OP_TYPE_MISMATCH_ERROR»}
 use Rattle.status.specs.declared.Position.the-variants.{Instruction}
 use Rattle.status.specs.declared.Verdict.the-variants.{Refused}
 use Rattle.definitions.specs.Result.{Result, ok, err, _>>?_}
 use Rattle.definitions.specs.AbilitySet.{AbilitySet}
 use Rattle.definitions.specs.SignatureToken.{SignatureToken, Signature, Bool′, U8, U64, Signer, Vector, Struct, StructInstantiation, Reference, []ᵗ, _∷ᵗ_, encode}
 use Rattle.definitions.specs.Substitution.{instantiate}
 use Rattle.definitions.specs.CompiledUnit.{StructHandle, Module}
 use Rattle.definitions.specs.Commands.{commandsOf}
 use Rattle.definitions.specs.Reading.{Read, read, stop}
 use Rattle.definitions.specs.Reader.{type}
 use Rattle.definitions.specs.Verify.{stands}
-use Rattle.theorems.specs.Calls.{types, abilitiesOf, answer, walkOf}
-use Rattle.theorems.specs.Units.{holding}
-use Rattle.theorems.specs.Rows.{answered, due, usageRows}
+use Rattle.definitions.specs.Calls.{types, abilitiesOf, answer, walkOf}
+use Rattle.definitions.specs.Units.{holding}
+use Rattle.definitions.specs.Rows.{answered, due, usageRows}
 
 -- a struct of all abilities over one parameter
 abbrev pub overOne : Bool → StructHandle

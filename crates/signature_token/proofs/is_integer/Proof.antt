@@ -1,0 +1,29 @@
+use mathlib.Core.Path.{_≡_, sym, ap, _∙_}
+use Rattle.signature_token.specs.Kinds.{integerOf, integer-by}
+use borrow.Author.Needs.{needs}
+use Rattle.signature_token.proofs.is_integer.Statement.{statement}
+use Rattle.signature_token.proofs.is_integer.Tie as tie
+use Rattle.signature_token.proofs.is_integer.Reads as reads
+use Rattle.signature_token.proofs.is_integer.Lts as lts
+use Rattle.signature_token.proofs.integer_command.Reads as integer-command-reads
+use Rattle.signature_token.proofs.token_at.Reads as token-at-reads
+
+enum-told : tie.Need-enum-told
+enum-told c = search needs
+
+pub is-integer-spec : {M : Type 1} → statement M
+is-integer-spec =
+    tie.close
+    (tie.spec
+    (λ c κs. search needs)
+    (λ c. search needs)
+    (λ c κs. search needs)
+    enum-told
+    (λ c. search needs)
+    (λ c. search needs)
+    (λ c. search needs)
+    (λ c. integer-by (c .before .before .before .before .token-at .ensures) (c .integer-command .ensures ∙ sym (ap integerOf (c .before .before .command .given .1))))
+    (λ c. integer-by (c .before .before .token-at .ensures) (sym (ap integerOf (c .enum-told .given .1))))
+    (λ c. integer-by (c .before .before .token-at .ensures) (sym (ap integerOf (c .enum-told2 .given .1))))
+    (λ c. integer-by (c .before .before .token-at .ensures) (sym (ap integerOf (c .enum-told3 .given .1))))
+    (λ c. integer-by (c .before .before .token-at .ensures) (sym (ap integerOf (c .enum-told4 .given .1)))))

@@ -1,0 +1,94 @@
+-- Demand 3 of the public calls: for every list of bytes, what the calls answer of it says how the decoded unit's blocks walk.
+use mathlib.Core.Bool.{Bool, true, false}
+use mathlib.Core.List.{List, []}
+use mathlib.Core.Path.{_≡_, refl}
+use Prim.Native.Nat.{ℕ, _≤_}
+use native.Mathlib.Omega.{arith}
+use lib.Dec.{leb}
+use Rattle.status.specs.declared.StatusCode.{StatusCode}
+use Rattle.status.specs.declared.StatusCode.the-variants.{AREA}
+use Rattle.status.specs.declared.Position.the-variants.{Byte}
+use Rattle.status.specs.declared.Verdict.{Verdict}
+use Rattle.status.specs.declared.Verdict.the-variants.{Accepted, Refused}
+use Rattle.status.specs.Verdict.{statusNumber, numberOf}
+use Rattle.definitions.specs.CompiledUnit.{CompiledUnit, Block}
+use Rattle.definitions.specs.Reading.{Read, read, stop}
+use Rattle.definitions.specs.Reader.{Decoded, readUnit, compiledUnit}
+use Rattle.definitions.specs.Verdicts.{longestArea, afterReading, reading, stackUsageVerdict, typesVerdict, bothVerdict}
+use Rattle.theorems.specs.Demand3.{Listed, Clean, demand3, demand3-both, neverEmptyStack, neverEmptyStack-both}
+
+module _ (s : List ℕ) where
+  -- what no refusal of the reading has, a verdict has from its pass over the decoded unit
+  pub record Judged (P : Verdict → Type 0) (judge : CompiledUnit → Verdict) : Type 0 where
+    pub decoded : Decoded
+    pub ends : ℕ
+    pub reads : readUnit s ≡ read decoded ends
+    pub holds : P (judge (compiledUnit decoded))
+
+  judged : (area : ℕ) (P : Verdict → Type 0) (judge : CompiledUnit → Verdict) → (P (Refused AREA (Byte 0)) → ⊥) →
+      ((w : StatusCode) (p : ℕ) → readUnit s ≡ stop w p → P (Refused w (Byte p)) → ⊥) → P (reading s area judge) → Judged P judge
+  unfolding reading
+  judged area P judge no-area no-stop h = within (leb area longestArea) h
+    where
+      after : (r : Read Decoded) → readUnit s ≡ r → P (afterReading r judge) → Judged P judge
+      after (read d e) k x = record { decoded = d; ends = e; reads = k; holds = x }
+      after (stop w p) k x = absurd (no-stop w p k x)
+
+      within : (b : Bool) → P (elim b as (λ _. Verdict) [ true ↦ afterReading (readUnit s) judge | false ↦ Refused AREA (Byte 0) ]) → Judged P judge
+      within true x = after (readUnit s) refl x
+      within false x = absurd (no-area x)
+
+  -- ── accepted ──
+
+  abbrev IsAccepted : Verdict → Type 0
+  IsAccepted v = v ≡ Accepted
+
+  not-accepted : (w : StatusCode) (p : ℕ) → IsAccepted (Refused w (Byte p)) → ⊥
+  not-accepted w p e = let z : _≡_ {A = ℕ} 0 1 = cc in omega arith
+
+  accepted : (area : ℕ) (judge : CompiledUnit → Verdict) → reading s area judge ≡ Accepted → Judged IsAccepted judge
+  accepted area judge v = judged area IsAccepted judge (not-accepted AREA 0) (λ w p _ e. not-accepted w p e) v
+
+  -- the pass accepts the unit that is read
+  accepts : (judge : CompiledUnit → Verdict) → Judged IsAccepted judge → (d : Decoded) (e : ℕ) → readUnit s ≡ read d e → judge (compiledUnit d) ≡ Accepted
+  accepts judge j d e k = let same : j .decoded ≡ d = cc in rw same at (j .holds)
+
+  module _ (area : ℕ) where
+    -- what is accepted was read
+    pub accepted-reads : stackUsageVerdict s area ≡ Accepted → (d : Decoded) × (e : ℕ) × (readUnit s ≡ read d e)
+    unfolding stackUsageVerdict
+    accepted-reads v = let j = accepted area _ v in (j .decoded, j .ends, j .reads)
+
+    pub accepted-reads-both : bothVerdict s area ≡ Accepted → (d : Decoded) × (e : ℕ) × (readUnit s ≡ read d e)
+    unfolding bothVerdict
+    accepted-reads-both v = let j = accepted area _ v in (j .decoded, j .ends, j .reads)
+
+    pub demand3-bytes : stackUsageVerdict s area ≡ Accepted → typesVerdict s area ≡ Accepted →
+        (d : Decoded) (e : ℕ) → readUnit s ≡ read d e → (bs : List Block) → Listed (compiledUnit d) bs → Clean (compiledUnit d) area bs []
+    unfolding stackUsageVerdict typesVerdict
+    demand3-bytes v v′ d e k = demand3 _ area (accepts _ (accepted area _ v) d e k) (accepts _ (accepted area _ v′) d e k)
+
+    pub demand3-bytes-both : bothVerdict s area ≡ Accepted →
+        (d : Decoded) (e : ℕ) → readUnit s ≡ read d e → (bs : List Block) → Listed (compiledUnit d) bs → Clean (compiledUnit d) area bs []
+    unfolding bothVerdict
+    demand3-bytes-both v d e k = demand3-both _ area (accepts _ (accepted area _ v) d e k)
+
+  -- ── never EMPTY_STACK ──
+
+  -- with what the reading refuses with
+  module _ (reads : (w : StatusCode) (p : ℕ) → readUnit s ≡ stop w p → statusNumber w ≤ 8) where
+    abbrev IsEmptyStack : Verdict → Type 0
+    IsEmptyStack v = numberOf v ≡ 10
+
+    emptied : (area : ℕ) (judge : CompiledUnit → Verdict) → numberOf (reading s area judge) ≡ 10 → Judged IsEmptyStack judge
+    emptied area judge v = judged area IsEmptyStack judge (λ e. omega arith) (λ w p k e. omega (arith, reads w p k)) v
+
+    pub neverEmptyStack-bytes : (area₁ area₂ : ℕ) → stackUsageVerdict s area₁ ≡ Accepted → numberOf (typesVerdict s area₂) ≡ 10 → ⊥
+    unfolding stackUsageVerdict typesVerdict
+    neverEmptyStack-bytes area₁ area₂ v v′ =
+        let j = emptied area₂ _ v′ in
+        neverEmptyStack (compiledUnit (j .decoded)) area₂ (accepts _ (accepted area₁ _ v) (j .decoded) (j .ends) (j .reads)) (j .holds)
+
+    pub bothNeverEmptyStack : (area : ℕ) → numberOf (bothVerdict s area) ≡ 10 → ⊥
+    unfolding bothVerdict
+    bothNeverEmptyStack area v = let j = emptied area _ v in neverEmptyStack-both (compiledUnit (j .decoded)) area (j .holds)
