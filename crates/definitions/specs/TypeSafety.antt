@@ -34,6 +34,84 @@ popExpecting t status = do
   operand ← pop
   check (same operand t) status
 
+-- ── steps that look nothing up in the unit ──
+
+-- `pack`
+unfoldable pub pack : Result StructWith → Step
+pack found = do
+  struct ← look found
+  fields ← look (typeFieldsSignature struct)
+  popEach «PACK_TYPE_MISMATCH_ERROR» ok (reverse fields)
+  push (structType struct)
+
+-- `unpack`
+unfoldable pub unpack : Result StructWith → Step
+unpack found = do
+  struct ← look found
+  popExpecting (structType struct) «UNPACK_TYPE_MISMATCH_ERROR»
+  fields ← look (typeFieldsSignature struct)
+  pushEach ok fields
+
+-- the guard of the vector instructions: the operand refers to a vector of that element
+unfoldable pub elementIs : SignatureToken → SignatureToken → Bool → Step
+elementIs declared vectorRef mutRefOnly = do
+  derived ← look (orErr «TYPE_MISMATCH» (getVectorElementType vectorRef mutRefOnly))
+  check (same derived declared) «TYPE_MISMATCH»
+
+-- `FreezeRef`
+unfoldable pub freezeRef : Step
+freezeRef = do
+  operand ← pop
+  referent ← look (orErr «FREEZEREF_TYPE_MISMATCH_ERROR» (mutableInner operand))
+  push (Reference referent)
+
+-- `CastU8`, `CastU64`, `CastU128`
+unfoldable pub cast : SignatureToken → Step
+cast t = do
+  operand ← pop
+  check (isInteger operand) «INTEGER_OP_TYPE_MISMATCH_ERROR»
+  push t
+
+-- `Add` to `Xor`
+unfoldable pub arithmetic : Step
+arithmetic = do
+  operand1 ← pop
+  operand2 ← pop
+  check (isInteger operand1 && same operand1 operand2) «INTEGER_OP_TYPE_MISMATCH_ERROR»
+  push operand1
+
+-- `Shl`, `Shr`: the top must be u8
+unfoldable pub shift : Step
+shift = do
+  operand1 ← pop
+  operand2 ← pop
+  check (isInteger operand2 && same operand1 U8) «INTEGER_OP_TYPE_MISMATCH_ERROR»
+  push operand2
+
+-- `Or`, `And`
+unfoldable pub logical : Step
+logical = do
+  operand1 ← pop
+  operand2 ← pop
+  check (same operand1 Bool′ && same operand2 Bool′) «BOOLEAN_OP_TYPE_MISMATCH_ERROR»
+  push Bool′
+
+-- `Not`
+unfoldable pub negation : Step
+negation = do
+  popExpecting Bool′ «BOOLEAN_OP_TYPE_MISMATCH_ERROR»
+  push Bool′
+
+-- `Lt`, `Gt`, `Le`, `Ge`
+unfoldable pub comparison : Step
+comparison = do
+  operand1 ← pop
+  operand2 ← pop
+  check (isInteger operand1 && same operand1 operand2) «INTEGER_OP_TYPE_MISMATCH_ERROR»
+  push Bool′
+
+-- ── steps over a unit ──
+
 module _ (u : CompiledUnit) where
   -- `borrow_field`
   unfoldable pub borrowField : Bool → ℕ → Signature → Step
@@ -101,22 +179,6 @@ module _ (u : CompiledUnit) where
     typeArgs ← look (signatureAt u (inst .typeParameters))
     call handle typeArgs
 
-  -- `pack`
-  unfoldable pub pack : Result StructWith → Step
-  pack found = do
-    struct ← look found
-    fields ← look (typeFieldsSignature struct)
-    popEach «PACK_TYPE_MISMATCH_ERROR» ok (reverse fields)
-    push (structType struct)
-
-  -- `unpack`
-  unfoldable pub unpack : Result StructWith → Step
-  unpack found = do
-    struct ← look found
-    popExpecting (structType struct) «UNPACK_TYPE_MISMATCH_ERROR»
-    fields ← look (typeFieldsSignature struct)
-    pushEach ok fields
-
   -- `!verifier.abilities(&struct_type)?.has_key()`
   unfoldable pub needsKey : StructWith → StatusCode → Step
   needsKey struct status = do
@@ -149,12 +211,6 @@ module _ (u : CompiledUnit) where
     check (same keyStruct (structType struct)) «MOVETO_TYPE_MISMATCH_ERROR»
     check (same signerReference (Reference Signer)) «MOVETO_TYPE_MISMATCH_ERROR»
 
-  -- the guard of the vector instructions: the operand refers to a vector of that element
-  unfoldable pub elementIs : SignatureToken → SignatureToken → Bool → Step
-  elementIs declared vectorRef mutRefOnly = do
-    derived ← look (orErr «TYPE_MISMATCH» (getVectorElementType vectorRef mutRefOnly))
-    check (same derived declared) «TYPE_MISMATCH»
-
   -- `borrow_vector_element`, after the signature's look-up in VecImmBorrow and VecMutBorrow
   unfoldable pub borrowVectorElement : Bool → ℕ → Step
   borrowVectorElement mutRefOnly idx = do
@@ -184,13 +240,6 @@ module _ (u : CompiledUnit) where
   -- `Ret`
   unfoldable pub retStep : Step
   retStep = popEach «RET_TYPE_MISMATCH_ERROR» ok (reverse (u .function .return))
-
-  -- `FreezeRef`
-  unfoldable pub freezeRef : Step
-  freezeRef = do
-    operand ← pop
-    referent ← look (orErr «FREEZEREF_TYPE_MISMATCH_ERROR» (mutableInner operand))
-    push (Reference referent)
 
   -- `LdConst`
   unfoldable pub ldConst : ℕ → Step
@@ -231,43 +280,6 @@ module _ (u : CompiledUnit) where
     check (hasDrop set) «WRITEREF_WITHOUT_DROP_ABILITY»
     check (same val referent) «WRITEREF_TYPE_MISMATCH_ERROR»
 
-  -- `CastU8`, `CastU64`, `CastU128`
-  unfoldable pub cast : SignatureToken → Step
-  cast t = do
-    operand ← pop
-    check (isInteger operand) «INTEGER_OP_TYPE_MISMATCH_ERROR»
-    push t
-
-  -- `Add` to `Xor`
-  unfoldable pub arithmetic : Step
-  arithmetic = do
-    operand1 ← pop
-    operand2 ← pop
-    check (isInteger operand1 && same operand1 operand2) «INTEGER_OP_TYPE_MISMATCH_ERROR»
-    push operand1
-
-  -- `Shl`, `Shr`: the top must be u8
-  unfoldable pub shift : Step
-  shift = do
-    operand1 ← pop
-    operand2 ← pop
-    check (isInteger operand2 && same operand1 U8) «INTEGER_OP_TYPE_MISMATCH_ERROR»
-    push operand2
-
-  -- `Or`, `And`
-  unfoldable pub logical : Step
-  logical = do
-    operand1 ← pop
-    operand2 ← pop
-    check (same operand1 Bool′ && same operand2 Bool′) «BOOLEAN_OP_TYPE_MISMATCH_ERROR»
-    push Bool′
-
-  -- `Not`
-  unfoldable pub negation : Step
-  negation = do
-    popExpecting Bool′ «BOOLEAN_OP_TYPE_MISMATCH_ERROR»
-    push Bool′
-
   -- `Eq`, `Neq`
   unfoldable pub equality : Step
   equality = do
@@ -275,14 +287,6 @@ module _ (u : CompiledUnit) where
     operand2 ← pop
     set ← look (abilities u operand1)
     check (hasDrop set && same operand1 operand2) «EQUALITY_OP_TYPE_MISMATCH_ERROR»
-    push Bool′
-
-  -- `Lt`, `Gt`, `Le`, `Ge`
-  unfoldable pub comparison : Step
-  comparison = do
-    operand1 ← pop
-    operand2 ← pop
-    check (isInteger operand1 && same operand1 operand2) «INTEGER_OP_TYPE_MISMATCH_ERROR»
     push Bool′
 
   -- `VecPack`: it pops without comparing

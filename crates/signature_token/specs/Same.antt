@@ -72,16 +72,16 @@ module _ {a : List ℕ} {x l : ℕ} {b : List ℕ} {y : ℕ} where
   pub same-short : length b - y < l → SameAt a x l b y false
   same-short f p q =
       sym (same-no (p .type) (q .type) (λ e.
-        let v = ap (λ (t : SignatureToken). length (encode t)) e in
-        let z = p .long in
-        omega (arith, at-room (q .stands))))
+      let v = ap (λ (t : SignatureToken). length (encode t)) e in
+      let z = p .long in
+      omega (arith, at-room (q .stands))))
 
   pub same-differs : (i : ℕ) → i < l → (getD a (x + i) 0 ≡ getD b (y + i) 0 → ⊥) → SameAt a x l b y false
   same-differs i k n p q =
       sym (same-no (p .type) (q .type) (λ e.
-        let v : length (encode (p .type)) ≡ length (encode (q .type)) = ap (λ (t : SignatureToken). length (encode t)) e in
-        let z = p .long in
-        n (at-getD (p .stands) i (omega arith) ∙ ap (λ (t : SignatureToken). getD (encode t) i 0) e ∙ sym (at-getD (q .stands) i (omega arith)))))
+      let v : length (encode (p .type)) ≡ length (encode (q .type)) = ap (λ (t : SignatureToken). length (encode t)) e in
+      let z = p .long in
+      n (at-getD (p .stands) i (omega arith) ∙ ap (λ (t : SignatureToken). getD (encode t) i 0) e ∙ sym (at-getD (q .stands) i (omega arith)))))
 
   pub same-alike : {i : ℕ} → l ≤ i → l ≤ length b - y → Alike a x b y i → SameAt a x l b y true
   same-alike {i} k f h p q =
@@ -89,7 +89,7 @@ module _ {a : List ℕ} {x l : ℕ} {b : List ℕ} {y : ℕ} where
       let r : length (take l (drop x a)) ≡ l = length-take-le l (drop x a) (omega (arith, length-drop x a, span-within p)) in
       let s : length (take l (drop y b)) ≡ l = length-take-le l (drop y b) (omega (arith, length-drop y b)) in
       let e : take l (drop x a) ≡ take l (drop y b) = ext-getD 0 (take l (drop x a)) (take l (drop y b)) (r ∙ sym s) (λ j g.
-        getD-take l (drop x a) j 0 (omega arith) ∙ getD-drop x a j 0 ∙ h j (omega arith) ∙ sym (getD-drop y b j 0) ∙ sym (getD-take l (drop y b) j 0 (omega arith))) in
+      getD-take l (drop x a) j 0 (omega arith) ∙ getD-drop x a j 0 ∙ h j (omega arith) ∙ sym (getD-drop y b j 0) ∙ sym (getD-take l (drop y b) j 0 (omega arith))) in
       let d : take l (drop x a) ≡ encode (p .type) = ap (λ (n : ℕ). take n (drop x a)) z ∙ at-part (encode (p .type)) (p .stands) in
       sym (same-yes (p .type) (q .type) (one-type (p .type) (q .type) (record {
         rest = drop l (drop y b);

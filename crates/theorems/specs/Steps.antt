@@ -127,13 +127,13 @@ module _ (u : CompiledUnit) {I : SignatureToken → Type 0} (k : Kept u I) where
   -- the steps over a struct that is looked up
   module _ {found : Result StructWith} (only : Tabled found) (names : (s : StructWith) → found ≡ ok s → Named u s) where
     module _ {count : Result ℕ} (counts : (s : StructWith) → found ≡ ok s → count ≡ countOf s) (only-count : Tabled count) where
-      sound-pack : WithinEffect I (count >>? λ n. n ⇒ 1) (pack u found)
+      sound-pack : WithinEffect I (count >>? λ n. n ⇒ 1) (pack found)
       unfolding pack
       sound-pack = chosen only-count 0 _ λ n agrees. looking (tabled only) λ s es. looking (only-fields s) λ ts ets.
           counted (omega (arith, length-reverse ts, fields-length s ts ets, agrees _ (counts s es))) refl
           (then (sound-popEach _ tt _ (λ t. only-ok) (reverse ts)) λ _. pushing _ (k .made (struct (names s es))))
 
-      sound-unpack : WithinEffect I (count >>? λ n. 1 ⇒ n) (unpack u found)
+      sound-unpack : WithinEffect I (count >>? λ n. 1 ⇒ n) (unpack found)
       unfolding unpack
       sound-unpack = chosen only-count 0 _ λ n agrees. looking (tabled only) λ s es. then (sound-popExpecting _ _ tt) λ _.
           looking (only-fields s) λ ts ets. counted refl (fields-length s ts ets ∙ agrees _ (counts s es))
@@ -156,7 +156,7 @@ module _ (u : CompiledUnit) {I : SignatureToken → Type 0} (k : Kept u I) where
     unfolding moveTo
     sound-moveTo = looking (tabled only) λ s _. then (sound-needsKey s _ tt) λ _. popping λ _ _. popping λ _ _. checking _ _ tt λ _. checked _ _ tt
 
-  sound-elementIs : (t v : SignatureToken) (mut : Bool) → S 0 0 (elementIs u t v mut)
+  sound-elementIs : (t v : SignatureToken) (mut : Bool) → S 0 0 (elementIs t v mut)
   unfolding elementIs
   sound-elementIs t v mut = looking (only-or «TYPE_MISMATCH» (getVectorElementType v mut) tt) λ _ _. checked _ _ tt
 
@@ -177,7 +177,7 @@ module _ (u : CompiledUnit) {I : SignatureToken → Type 0} (k : Kept u I) where
   unfolding retStep
   sound-retStep = counted (length-reverse (u .function .return)) refl (sound-popEach _ tt _ (λ t. only-ok) (reverse (u .function .return)))
 
-  sound-freezeRef : S 1 1 (freezeRef u)
+  sound-freezeRef : S 1 1 freezeRef
   unfolding freezeRef
   sound-freezeRef = popping λ t i. looking (only-or «FREEZEREF_TYPE_MISMATCH_ERROR» (mutableInner t) tt) λ r e. pushing _ (k .frozen t r i (or-some _ _ _ e))
 
@@ -203,23 +203,23 @@ module _ (u : CompiledUnit) {I : SignatureToken → Type 0} (k : Kept u I) where
   sound-writeRef = popping λ t _. popping λ _ _. looking (only-or «WRITEREF_NO_MUTABLE_REFERENCE_ERROR» (mutableInner t) tt) λ _ _.
       looking (only-abilities u _) λ _ _. checking _ _ tt λ _. checked _ _ tt
 
-  sound-cast : {t : SignatureToken} → Made u t → S 1 1 (cast u t)
+  sound-cast : {t : SignatureToken} → Made u t → S 1 1 (cast t)
   unfolding cast
   sound-cast m = popping λ _ _. checking _ _ tt λ _. pushing _ (k .made m)
 
-  sound-arithmetic : S 2 1 (arithmetic u)
+  sound-arithmetic : S 2 1 arithmetic
   unfolding arithmetic
   sound-arithmetic = popping λ _ i. popping λ _ _. checking _ _ tt λ _. pushing _ i
 
-  sound-shift : S 2 1 (shift u)
+  sound-shift : S 2 1 shift
   unfolding shift
   sound-shift = popping λ _ _. popping λ _ i. checking _ _ tt λ _. pushing _ i
 
-  sound-logical : S 2 1 (logical u)
+  sound-logical : S 2 1 logical
   unfolding logical
   sound-logical = popping λ _ _. popping λ _ _. checking _ _ tt λ _. pushing _ (k .made bool)
 
-  sound-negation : S 1 1 (negation u)
+  sound-negation : S 1 1 negation
   unfolding negation
   sound-negation = then (sound-popExpecting _ _ tt) λ _. pushing _ (k .made bool)
 
@@ -227,7 +227,7 @@ module _ (u : CompiledUnit) {I : SignatureToken → Type 0} (k : Kept u I) where
   unfolding equality
   sound-equality = popping λ _ _. popping λ _ _. looking (only-abilities u _) λ _ _. checking _ _ tt λ _. pushing _ (k .made bool)
 
-  sound-comparison : S 2 1 (comparison u)
+  sound-comparison : S 2 1 comparison
   unfolding comparison
   sound-comparison = popping λ _ _. popping λ _ _. checking _ _ tt λ _. pushing _ (k .made bool)
 
