@@ -15,6 +15,7 @@ use Rattle.definitions.specs.CompiledUnit.{CompiledUnit, Block}
 use Rattle.definitions.specs.Reading.{Read, read, stop}
 use Rattle.definitions.specs.Reader.{Decoded, readUnit, compiledUnit}
 use Rattle.definitions.specs.Verdicts.{longestArea, afterReading, reading, stackUsageVerdict, typesVerdict, bothVerdict}
+use Rattle.theorems.specs.ReadUnit.{readUnit-stops}
 use Rattle.theorems.specs.Demand3.{Listed, Clean, demand3, demand3-both, neverEmptyStack, neverEmptyStack-both}
 
 module _ (s : List ℕ) where
@@ -75,20 +76,18 @@ module _ (s : List ℕ) where
 
   -- ── never EMPTY_STACK ──
 
-  -- with what the reading refuses with
-  module _ (reads : (w : StatusCode) (p : ℕ) → readUnit s ≡ stop w p → statusNumber w ≤ 8) where
-    abbrev IsEmptyStack : Verdict → Type 0
-    IsEmptyStack v = numberOf v ≡ 10
+  abbrev IsEmptyStack : Verdict → Type 0
+  IsEmptyStack v = numberOf v ≡ 10
 
-    emptied : (area : ℕ) (judge : CompiledUnit → Verdict) → numberOf (reading s area judge) ≡ 10 → Judged IsEmptyStack judge
-    emptied area judge v = judged area IsEmptyStack judge (λ e. omega arith) (λ w p k e. omega (arith, reads w p k)) v
+  emptied : (area : ℕ) (judge : CompiledUnit → Verdict) → numberOf (reading s area judge) ≡ 10 → Judged IsEmptyStack judge
+  emptied area judge v = judged area IsEmptyStack judge (λ e. omega arith) (λ w p k e. omega (arith, readUnit-stops s w p k .1)) v
 
-    pub neverEmptyStack-bytes : (area₁ area₂ : ℕ) → stackUsageVerdict s area₁ ≡ Accepted → numberOf (typesVerdict s area₂) ≡ 10 → ⊥
-    unfolding stackUsageVerdict typesVerdict
-    neverEmptyStack-bytes area₁ area₂ v v′ =
-        let j = emptied area₂ _ v′ in
-        neverEmptyStack (compiledUnit (j .decoded)) area₂ (accepts _ (accepted area₁ _ v) (j .decoded) (j .ends) (j .reads)) (j .holds)
+  pub neverEmptyStack-bytes : (area₁ area₂ : ℕ) → stackUsageVerdict s area₁ ≡ Accepted → numberOf (typesVerdict s area₂) ≡ 10 → ⊥
+  unfolding stackUsageVerdict typesVerdict
+  neverEmptyStack-bytes area₁ area₂ v v′ =
+      let j = emptied area₂ _ v′ in
+      neverEmptyStack (compiledUnit (j .decoded)) area₂ (accepts _ (accepted area₁ _ v) (j .decoded) (j .ends) (j .reads)) (j .holds)
 
-    pub bothNeverEmptyStack : (area : ℕ) → numberOf (bothVerdict s area) ≡ 10 → ⊥
-    unfolding bothVerdict
-    bothNeverEmptyStack area v = let j = emptied area _ v in neverEmptyStack-both (compiledUnit (j .decoded)) area (j .holds)
+  pub bothNeverEmptyStack : (area : ℕ) → numberOf (bothVerdict s area) ≡ 10 → ⊥
+  unfolding bothVerdict
+  bothNeverEmptyStack area v = let j = emptied area _ v in neverEmptyStack-both (compiledUnit (j .decoded)) area (j .holds)

@@ -17,29 +17,12 @@ use Rattle.definitions.specs.TypeSafety.{structType}
 use Rattle.definitions.specs.Verify.{stands, stopped, walk}
 use Rattle.theorems.specs.Lookups.{ok-same, never-ok, used, at-member}
 use Rattle.theorems.specs.All.{All, none, more, all-member}
+use Rattle.theorems.specs.Bounded.{NestsWithin, FieldsNestWithin, DefinitionNestsWithin, Bounded}
+use Rattle.definitions.specs.Reading.{read}
+use Rattle.definitions.specs.Reader.{Decoded, readUnit, compiledUnit}
+use Rattle.theorems.specs.ReadUnit.{readUnit-bounded}
 use Rattle.theorems.specs.Kept.{TypeArgs, without, named, Source, signature, field, Made, bool, u8, u64, u128, constant, local, element, struct, instantiated, Kept}
 use Rattle.theorems.specs.Walks.{stackOf, walk-ends}
-
--- ── the statement ──
-
--- at most n levels
-abbrev pub NestsWithin : ℕ → SignatureToken → Type 0
-NestsWithin n t = depth t ≤ n
-
-abbrev pub FieldsNestWithin : ℕ → StructFieldInformation → Type 0
-FieldsNestWithin n Native = Unit {0}
-FieldsNestWithin n (Declared fields) = All (NestsWithin n) fields
-
-abbrev pub DefinitionNestsWithin : ℕ → StructDefinition → Type 0
-DefinitionNestsWithin n d = FieldsNestWithin n (d .fieldInformation)
-
--- every type of the unit nests at most 32 levels
-pub record Bounded (u : CompiledUnit) : Type 0 where
-  pub signatures : All (All (NestsWithin 32)) (u .signatures)
-  pub structDefs : All (DefinitionNestsWithin 32) (u .structDefs)
-  pub constants : All (NestsWithin 32) (u .constants)
-  pub parameters : All (NestsWithin 32) (u .function .parameters)
-  pub locals : All (NestsWithin 32) (u .function .locals)
 
 -- ── substitution ──
 
@@ -222,3 +205,10 @@ module _ (u : CompiledUnit) (b : Bounded u) where
     -- from an empty stack, as the pass walks
     pub nests-from-empty : All (NestsWithin 64) (stackOf (walk u area bs []))
     nests-from-empty = nests [] none
+
+-- NO TYPE ON THE STACK NESTS OVER 64 LEVELS: every unit that is read, every area, every list of blocks, at the end of the walk or where
+-- it is refused
+pub nests-bytes :
+    (s : List ℕ) (d : Decoded) (e : ℕ) → readUnit s ≡ read d e → (area : ℕ) (bs : List Block) →
+    All (NestsWithin 64) (stackOf (walk (compiledUnit d) area bs []))
+nests-bytes s d e k area bs = nests-from-empty (compiledUnit d) (readUnit-bounded s d e k) area bs
