@@ -1,0 +1,5 @@
+pub mod Walk
+pub mod Types
+pub mod Records
+pub mod Table
+pub mod Instructions

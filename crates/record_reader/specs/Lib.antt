@@ -1,0 +1,7 @@
+pub mod ReadTo
+pub mod Alike
+pub mod Bodies
+pub mod BodyLaws
+pub mod Ends
+pub mod Apart
+pub mod Sound

@@ -1,0 +1,340 @@
+// One record's body, one type or one instruction, read from bytes of which nothing is known. Each function answers what the reader of
+// the definitions answers at that position, for every input: where the next byte is, or the refusal and its byte. The value that stands
+// there is not kept: what a pass needs of it is read again at its place.
+use status::StatusCode;
+ghost use mathlib.Core.Path.{_≡_};
+ghost use mathlib.Core.List.{List};
+ghost use Prim.Native.Nat.{ℕ, _+_, _*_, _<_};
+ghost use lib.ListN.{length, getD};
+ghost use Rattle.definitions.specs.SignatureToken.{Signature};
+ghost use Rattle.definitions.specs.CompiledUnit.{Head};
+ghost use Rattle.definitions.specs.Commands.{commandsOf};
+ghost use Rattle.definitions.specs.Reading.{skip};
+ghost use Rattle.definitions.specs.Reader.{typeWithin, types, byteUpTo, structHandle, structDefinition, signatureOf, functionView, instruction};
+ghost use Rattle.record_reader.specs.ReadTo.{readTo};
+ghost use Rattle.record_reader.specs.Bodies.{counted, pair, bodyOf, typeShape, operandWidth};
+
+// Where reading goes on, or why it ends and the byte that this is about.
+pub enum ReadTo {
+    Next(usize),
+    Refused(StatusCode, usize),
+}
+
+// What follows a type's command: nothing, a type, a u16, or a u16 with a list of types.
+pub enum TypeShape {
+    Leaf,
+    Over,
+    Index,
+    Instantiation,
+    Unknown,
+}
+
+fn wide(x: u8) -> usize
+    ensures { λ r. ⌜ (r ≡ x) × (r < 256) ⌝ }
+{
+    x as usize
+}
+
+// `count` bytes that are not looked at.
+pub fn skip_bytes(s: &[u8], at: usize, count: usize) -> ReadTo
+    ensures { λ r. ⌜ r ≡ readTo (skip count (now (s .entry)) at) ⌝ }
+{
+    if s.len() < at {
+        return ReadTo::Refused(StatusCode::SHORT, s.len());
+    }
+    if s.len() - at < count {
+        return ReadTo::Refused(StatusCode::SHORT, s.len());
+    }
+    ReadTo::Next(at + count)
+}
+
+// ── types ──
+
+// What a byte opens as a type's command.
+pub fn type_shape(command: u8) -> TypeShape
+    ensures { λ r. ⌜ r ≡ typeShape command ⌝ }
+{
+    match command {
+        0x01..=0x06 => TypeShape::Leaf,
+        0x07 => TypeShape::Over,
+        0x08 => TypeShape::Index,
+        0x09 => TypeShape::Instantiation,
+        0x0A => TypeShape::Over,
+        0x0B => TypeShape::Over,
+        0x0C => TypeShape::Index,
+        _ => TypeShape::Unknown,
+    }
+}
+
+// A type of at most so many levels.
+pub fn read_type(s: &[u8], at: usize, levels: u8) -> ReadTo
+    ensures { λ r. ⌜ ((head : Head) → r ≡ readTo (typeWithin (commandsOf head) levels (now (s .entry)) at)) ⌝ }
+{
+    if s.len() <= at {
+        return ReadTo::Refused(StatusCode::SHORT, s.len());
+    }
+    if levels == 0 {
+        return ReadTo::Refused(StatusCode::DEPTH, at);
+    }
+    match type_shape(s[at]) {
+        TypeShape::Leaf => ReadTo::Next(at + 1),
+        TypeShape::Over => read_type(s, at + 1, levels - 1),
+        TypeShape::Index => skip_bytes(s, at + 1, 2),
+        TypeShape::Instantiation => {
+            let handle = skip_bytes(s, at + 1, 2);
+            let ReadTo::Next(next) = handle else {
+                return handle;
+            };
+            read_types_within(s, next, levels - 1)
+        }
+        TypeShape::Unknown => ReadTo::Refused(StatusCode::COMMAND, at),
+    }
+}
+
+// u8 count, and that many types of at most so many levels.
+pub fn read_types_within(s: &[u8], at: usize, levels: u8) -> ReadTo
+    ensures { λ r. ⌜ ((head : Head) → r ≡ readTo (counted (typeWithin (commandsOf head) levels) (now (s .entry)) at)) ⌝ }
+{
+    if s.len() <= at {
+        return ReadTo::Refused(StatusCode::SHORT, s.len());
+    }
+    let count = s[at];
+    let mut next = at + 1;
+    let mut i = 0u8;
+    while i < count {
+        let one = read_type(s, next, levels);
+        let ReadTo::Next(end) = one else {
+            return one;
+        };
+        next = end;
+        i += 1;
+    }
+    ReadTo::Next(next)
+}
+
+// `11`: u8 count, types.
+pub fn read_types(s: &[u8], at: usize) -> ReadTo
+    ensures { λ r. ⌜ ((head : Head) → r ≡ readTo (types (commandsOf head) (now (s .entry)) at)) ⌝ }
+{
+    read_types_within(s, at, 32)
+}
+
+// ── records, after their command ──
+
+// u8 count, and that many bytes of at most `most`.
+fn read_bytes_up_to(s: &[u8], at: usize, most: u8) -> ReadTo
+    ensures { λ r. ⌜ r ≡ readTo (counted (byteUpTo most) (now (s .entry)) at) ⌝ }
+{
+    if s.len() <= at {
+        return ReadTo::Refused(StatusCode::SHORT, s.len());
+    }
+    let count = s[at];
+    let mut next = at + 1;
+    let mut i = 0u8;
+    while i < count {
+        if s.len() <= next {
+            return ReadTo::Refused(StatusCode::SHORT, s.len());
+        }
+        if most < s[next] {
+            return ReadTo::Refused(StatusCode::VALUE, next);
+        }
+        next += 1;
+        i += 1;
+    }
+    ReadTo::Next(next)
+}
+
+// `10`: ability byte, u8 count, phantom bytes.
+pub fn read_struct_handle(s: &[u8], at: usize) -> ReadTo
+    ensures { λ r. ⌜ r ≡ readTo (structHandle (now (s .entry)) at) ⌝ }
+{
+    if s.len() <= at {
+        return ReadTo::Refused(StatusCode::SHORT, s.len());
+    }
+    if 15 < s[at] {
+        return ReadTo::Refused(StatusCode::VALUE, at);
+    }
+    read_bytes_up_to(s, at + 1, 1)
+}
+
+// `12`, `13`, `15`, `16`, `17` and `1A`: two u16.
+pub fn read_pair(s: &[u8], at: usize) -> ReadTo
+    ensures { λ r. ⌜ r ≡ readTo (pair (now (s .entry)) at) ⌝ }
+{
+    skip_bytes(s, at, 4)
+}
+
+// `14`: u16 handle, kind, and the fields of a declared one.
+pub fn read_struct_definition(s: &[u8], at: usize) -> ReadTo
+    ensures { λ r. ⌜ ((head : Head) → r ≡ readTo (structDefinition (commandsOf head) (now (s .entry)) at)) ⌝ }
+{
+    let handle = skip_bytes(s, at, 2);
+    let ReadTo::Next(next) = handle else {
+        return handle;
+    };
+    if s.len() <= next {
+        return ReadTo::Refused(StatusCode::SHORT, s.len());
+    }
+    let kind = s[next];
+    if 1 < kind {
+        return ReadTo::Refused(StatusCode::VALUE, next);
+    }
+    if kind == 0 {
+        return ReadTo::Next(next + 1);
+    }
+    read_types(s, next + 1)
+}
+
+// The u16 at a position.
+pub fn u16_at(s: &[u8], at: usize) -> usize
+    requires { ⌜ at + 1 < length (now s) ⌝ }
+    ensures { λ r. ⌜ r ≡ getD (now (s .entry)) at 0 + 256 * getD (now (s .entry)) (at + 1) 0 ⌝ }
+{
+    wide(s[at]) + 256 * wide(s[at + 1])
+}
+
+// The index of one of so many signatures.
+fn read_signature_index(s: &[u8], at: usize, signatures: usize) -> ReadTo
+    ensures { λ r. ⌜ ((l : List Signature) → length l ≡ signatures → r ≡ readTo (signatureOf l (now (s .entry)) at)) ⌝ }
+{
+    if s.len() <= at {
+        return ReadTo::Refused(StatusCode::SHORT, s.len());
+    }
+    if s.len() <= at + 1 {
+        return ReadTo::Refused(StatusCode::SHORT, s.len());
+    }
+    if signatures <= u16_at(s, at) {
+        return ReadTo::Refused(StatusCode::VALUE, at);
+    }
+    ReadTo::Next(at + 1 + 1)
+}
+
+// `19`: parameters, return and locals, each one of so many signatures; u8 count, ability bytes.
+pub fn read_function(s: &[u8], at: usize, signatures: usize) -> ReadTo
+    ensures { λ r. ⌜ ((l : List Signature) → length l ≡ signatures → r ≡ readTo (functionView l (now (s .entry)) at)) ⌝ }
+{
+    let parameters = read_signature_index(s, at, signatures);
+    let ReadTo::Next(at_return) = parameters else {
+        return parameters;
+    };
+    let returned = read_signature_index(s, at_return, signatures);
+    let ReadTo::Next(at_locals) = returned else {
+        return returned;
+    };
+    let locals = read_signature_index(s, at_locals, signatures);
+    let ReadTo::Next(at_abilities) = locals else {
+        return locals;
+    };
+    read_bytes_up_to(s, at_abilities, 15)
+}
+
+// The body of a record of a table, by its command.
+pub fn read_body(s: &[u8], at: usize, command: u8) -> ReadTo
+    ensures { λ r. ⌜ ((head : Head) → r ≡ readTo (bodyOf (commandsOf head) command (now (s .entry)) at)) ⌝ }
+{
+    match command {
+        0x10 => read_struct_handle(s, at),
+        0x11 => read_types(s, at),
+        0x14 => read_struct_definition(s, at),
+        0x18 => read_type(s, at, 32),
+        _ => read_pair(s, at),
+    }
+}
+
+// ── code ──
+
+// How many bytes follow each opcode.
+const OPERAND_WIDTHS: [usize; 71] = [
+    0, // Pop
+    0, // Ret
+    2, // BrTrue
+    2, // BrFalse
+    2, // Branch
+    1, // LdU8
+    8, // LdU64
+    16, // LdU128
+    0, // CastU8
+    0, // CastU64
+    0, // CastU128
+    2, // LdConst
+    0, // LdTrue
+    0, // LdFalse
+    1, // CopyLoc
+    1, // MoveLoc
+    1, // StLoc
+    2, // Call
+    2, // CallGeneric
+    2, // Pack
+    2, // PackGeneric
+    2, // Unpack
+    2, // UnpackGeneric
+    0, // ReadRef
+    0, // WriteRef
+    0, // FreezeRef
+    1, // MutBorrowLoc
+    1, // ImmBorrowLoc
+    2, // MutBorrowField
+    2, // MutBorrowFieldGeneric
+    2, // ImmBorrowField
+    2, // ImmBorrowFieldGeneric
+    2, // MutBorrowGlobal
+    2, // MutBorrowGlobalGeneric
+    2, // ImmBorrowGlobal
+    2, // ImmBorrowGlobalGeneric
+    0, // Add
+    0, // Sub
+    0, // Mul
+    0, // Mod
+    0, // Div
+    0, // BitOr
+    0, // BitAnd
+    0, // Xor
+    0, // Or
+    0, // And
+    0, // Not
+    0, // Eq
+    0, // Neq
+    0, // Lt
+    0, // Gt
+    0, // Le
+    0, // Ge
+    0, // Abort
+    0, // Nop
+    2, // Exists
+    2, // ExistsGeneric
+    2, // MoveFrom
+    2, // MoveFromGeneric
+    2, // MoveTo
+    2, // MoveToGeneric
+    0, // Shl
+    0, // Shr
+    10, // VecPack
+    2, // VecLen
+    2, // VecImmBorrow
+    2, // VecMutBorrow
+    2, // VecPushBack
+    2, // VecPopBack
+    10, // VecUnpack
+    2, // VecSwap
+];
+
+fn operand_width(opcode: usize) -> usize
+    requires { ⌜ opcode < 71 ⌝ }
+    ensures { λ r. ⌜ r ≡ operandWidth opcode ⌝ }
+{
+    OPERAND_WIDTHS[opcode]
+}
+
+// An opcode and its operands.
+pub fn read_instruction(s: &[u8], at: usize) -> ReadTo
+    ensures { λ r. ⌜ ((head : Head) → r ≡ readTo (instruction (commandsOf head) (now (s .entry)) at)) ⌝ }
+{
+    if s.len() <= at {
+        return ReadTo::Refused(StatusCode::SHORT, s.len());
+    }
+    let opcode = wide(s[at]);
+    if 71 <= opcode {
+        return ReadTo::Refused(StatusCode::COMMAND, at);
+    }
+    skip_bytes(s, at + 1, operand_width(opcode))
+}
