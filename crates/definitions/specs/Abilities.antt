@@ -1,12 +1,12 @@
 -- `BinaryIndexedView::abilities` of binary_views.rs.
-use mathlib.Core.Bool.{Bool, true, false}
+use mathlib.Core.Bool.{Bool, false}
 use mathlib.Core.List.{List, [], _∷_, map}
-use Prim.Native.Nat.{ℕ}
-use Rattle.definitions.specs.Result.{Result, ok, err, _>>?_, at}
+use Rattle.definitions.specs.Result.{Result, ok, _>>?_, at}
 use Rattle.definitions.specs.AbilitySet.{AbilitySet, PRIMITIVES, REFERENCES, SIGNER, VECTOR, polymorphicAbilities}
 use Rattle.definitions.specs.SignatureToken.{SignatureToken, SignatureTokens, Bool′, U8, U64, U128, Address, Signer, Vector, Struct, StructInstantiation, Reference, MutableReference, TypeParameter, []ᵗ, _∷ᵗ_}
 use Rattle.definitions.specs.CompiledUnit.{CompiledUnit, StructHandle, StructTypeParameter}
 
+-- a parameter's phantom mark
 abbrev pub isPhantomOf : StructTypeParameter → Bool
 isPhantomOf p = p .isPhantom
 

@@ -1,5 +1,5 @@
 -- `Ability` and `AbilitySet` of file_format.rs; document 01's section "Ability set". A set is a byte, 0 to 15.
-use mathlib.Core.Bool.{Bool, true, false, cond}
+use mathlib.Core.Bool.{Bool, cond}
 use mathlib.Core.List.{List, [], _∷_, foldl}
 use Prim.Native.Nat.{ℕ}
 use lib.Bits.{bitAnd, bitOr}
@@ -8,6 +8,7 @@ use lib.ListN.{length}
 use Rattle.status.specs.declared.StatusCode.the-variants.{«VERIFIER_INVARIANT_VIOLATION»}
 use Rattle.definitions.specs.Result.{Result, ok, err}
 
+-- `Ability`, in the order of its bits
 pub data Ability : Type 0 where
   Copy Drop Store Key : Ability
 
@@ -18,9 +19,11 @@ bit Drop = 2
 bit Store = 4
 bit Key = 8
 
+-- the sum of its members' bits
 abbrev pub AbilitySet : Type 0
 AbilitySet = ℕ
 
+-- `AbilitySet::EMPTY`
 abbrev pub EMPTY : AbilitySet
 EMPTY = 0
 
@@ -40,24 +43,31 @@ SIGNER = 2
 abbrev pub VECTOR : AbilitySet
 VECTOR = 7
 
+-- `AbilitySet::union`
 unfoldable pub union : AbilitySet → AbilitySet → AbilitySet
 union a b = bitOr a b
 
+-- `AbilitySet::intersect`
 unfoldable pub intersect : AbilitySet → AbilitySet → AbilitySet
 intersect a b = bitAnd a b
 
+-- `AbilitySet::has_ability`
 unfoldable pub hasAbility : AbilitySet → Ability → Bool
 hasAbility set ability = eqb (bitAnd (bit ability) set) (bit ability)
 
+-- `AbilitySet::has_copy`
 abbrev pub hasCopy : AbilitySet → Bool
 hasCopy set = hasAbility set Copy
 
+-- `AbilitySet::has_drop`
 abbrev pub hasDrop : AbilitySet → Bool
 hasDrop set = hasAbility set Drop
 
+-- `AbilitySet::has_store`
 abbrev pub hasStore : AbilitySet → Bool
 hasStore set = hasAbility set Store
 
+-- `AbilitySet::has_key`
 abbrev pub hasKey : AbilitySet → Bool
 hasKey set = hasAbility set Key
 

@@ -43,7 +43,7 @@ decoded s = Reader.readUnit s
 unfoldable pub abilitiesOf : List StructHandle → SignatureToken → Result AbilitySet
 unfolding Results._>>?_ Results.at Tables.inModule Tables.structHandleAt Tables.signatureAt Tables.functionHandleAt
     Tables.functionInstantiationAt Tables.structDefAt Tables.structInstantiationAt Tables.fieldHandleAt
-    Tables.fieldInstantiationAt Tables.constantAt Tables.localAt Tables.elementTypeAt Tables.plain Tables.generic Sets.union
+    Tables.fieldInstantiationAt Tables.constantAt Tables.localAt Tables.elementTypeAt Tables.plainStruct Tables.genericStruct Sets.union
     Sets.intersect Sets.hasAbility Sets.requiredBy Sets.withRequiredBy Sets.requiredByAny Sets.meetArgument Sets.meetArguments
     Sets.polymorphicAbilities Abilities.abilitiesIn Abilities.abilities
 abilitiesOf structHandles t = Abilities.abilitiesIn structHandles [] t
@@ -72,6 +72,7 @@ unfolding abilitiesOf StackUsage.instructionsOf Tokens.arguments Tokens.count To
     TypeSafety.vecUnpack TypeSafety.vecSwap TypeSafety.verifyInstr Verify.walkFrom Verify.walkBlock Verify.walk
 walkUnit u area = Verify.walk u area (u .blocks) []
 
+-- document 01's four public calls
 pub data Call : Type 0 where
   readUnit stackUsage types both : Call
 

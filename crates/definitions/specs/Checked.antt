@@ -29,6 +29,7 @@ overOne phantom = record { abilities = 15; typeParameters = record { isPhantom =
 abbrev pub abilitiesByte : SignatureToken → Result AbilitySet
 abilitiesByte t = abilitiesOf (overOne false ∷ overOne true ∷ record { abilities = 8; typeParameters = [] } ∷ []) t
 
+-- the bytes of a type that was read, instantiated
 abbrev pub instantiateRead : Read SignatureToken → Signature → Result (List ℕ)
 instantiateRead (read t e) arguments = instantiate t arguments >>? λ t′. ok (encode t′)
 instantiateRead (stop status p) arguments = err status
@@ -37,6 +38,7 @@ instantiateRead (stop status p) arguments = err status
 abbrev pub instanceBytes : List ℕ → Signature → Result (List ℕ)
 instanceBytes bytes arguments = instantiateRead (type (commandsOf Module) bytes 0) arguments
 
+-- the list, in its order
 abbrev pub Checked : Type 0
 Checked =
     (abilitiesByte U64 ≡ ok 7)

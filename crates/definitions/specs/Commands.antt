@@ -1,6 +1,6 @@
 -- The commands of a unit: what each byte opens, as a record, as a type and as an instruction. `commandsOf` says which are known under a
 -- head; it is the one place that does.
-use mathlib.Core.Bool.{Bool, true, false, _||_}
+use mathlib.Core.Bool.{Bool, false, _||_}
 use mathlib.Core.List.{List, [], _∷_}
 use Prim.Native.Nat.{ℕ}
 use lib.Dec.{eqb}
@@ -54,6 +54,7 @@ instructionForms =
     ∷ index MoveToGeneric ∷ plain Shl ∷ plain Shr ∷ counted VecPack ∷ index VecLen ∷ index VecImmBorrow ∷ index VecMutBorrow
     ∷ index VecPushBack ∷ index VecPopBack ∷ counted VecUnpack ∷ index VecSwap ∷ []
 
+-- the commands of records, of types and of instructions
 pub record Commands : Type 0 where
   -- the records' commands
   pub records : List ℕ
@@ -73,6 +74,7 @@ commandsOf Script = record {
   instructions = instructionForms;
 }
 
+-- whether c is one of the list
 unfoldable pub oneOf : List ℕ → ℕ → Bool
 oneOf [] c = false
 oneOf (k ∷ ks) c = eqb k c || oneOf ks c
@@ -81,8 +83,10 @@ oneOf (k ∷ ks) c = eqb k c || oneOf ks c
 unfoldable pub known : Commands → ℕ → Bool
 known commands c = oneOf (commands .records) c
 
+-- what a byte opens as a type
 unfoldable pub typeCommand : Commands → ℕ → TypeCommand
 typeCommand commands c = getD (commands .types) c TypeCommand.unknown
 
+-- what a byte opens as an instruction
 unfoldable pub instructionForm : Commands → ℕ → InstructionForm
 instructionForm commands c = getD (commands .instructions) c InstructionForm.unknown

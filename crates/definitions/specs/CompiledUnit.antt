@@ -1,8 +1,8 @@
 -- A decoded unit (document 01's term: one module or script with one function): the tables of `CompiledModule` and `CompiledScript`
 -- that the two passes read, the function as `FunctionView` shows it, its listed blocks and its code; and the look-ups of
 -- `BinaryIndexedView`. Where the Rust's look-up panics, OUT_OF_TABLE; where a script lacks the table, INVALID_OPERATION_IN_SCRIPT.
-use mathlib.Core.Bool.{Bool, true, false, cond}
-use mathlib.Core.List.{List, [], _∷_}
+use mathlib.Core.Bool.{Bool, cond}
+use mathlib.Core.List.{List, []}
 use Prim.Native.Nat.{ℕ, _-_}
 use lib.Dec.{ltb}
 use lib.ListN.{length}
@@ -16,53 +16,63 @@ use Rattle.definitions.specs.Bytecode.{Bytecode}
 pub data Head : Type 0 where
   Module Script : Head
 
+-- `StructTypeParameter`, without its constraints: they are not read here
 pub record StructTypeParameter : Type 0 where
   pub isPhantom : Bool
 
+-- record `10`
 pub record StructHandle : Type 0 where
   pub abilities : AbilitySet
   pub typeParameters : List StructTypeParameter
 
--- signature indexes
+-- record `12`: signature indexes
 pub record FunctionHandle : Type 0 where
   pub parameters : ℕ
   pub return : ℕ
 
+-- record `13`: a function handle and its type arguments' signature, by index
 pub record FunctionInstantiation : Type 0 where
   pub handle : ℕ
   pub typeParameters : ℕ
 
+-- a struct's fields: none to see where it is native
 pub data StructFieldInformation : Type 0 where
   Native : StructFieldInformation
   Declared : List SignatureToken → StructFieldInformation
 
+-- record `14`
 pub record StructDefinition : Type 0 where
   pub structHandle : ℕ
   pub fieldInformation : StructFieldInformation
 
+-- record `15`: a struct definition and its type arguments' signature, by index
 pub record StructDefInstantiation : Type 0 where
   pub def : ℕ
   pub typeParameters : ℕ
 
+-- record `16`: a struct definition and the field's number in it
 pub record FieldHandle : Type 0 where
   pub owner : ℕ
   pub field : ℕ
 
+-- record `17`: a field handle and its type arguments' signature, by index
 pub record FieldInstantiation : Type 0 where
   pub handle : ℕ
   pub typeParameters : ℕ
 
+-- record `19`, its signatures looked up
 pub record FunctionView : Type 0 where
   pub parameters : Signature
   pub return : Signature
   pub locals : Signature
   pub typeParameters : List AbilitySet
 
--- the first and the last instruction
+-- record `1A`: the first and the last instruction
 pub record Block : Type 0 where
   pub first : ℕ
   pub last : ℕ
 
+-- the tables, each in the order of its records
 pub record CompiledUnit : Type 0 where
   pub head : Head
   pub structHandles : List StructHandle
@@ -84,30 +94,39 @@ inModule Module found = found
 inModule Script found = err «INVALID_OPERATION_IN_SCRIPT»
 
 module _ (u : CompiledUnit) where
+  -- `struct_handle_at`
   unfoldable pub structHandleAt : ℕ → Result StructHandle
   structHandleAt i = at (u .structHandles) i
 
+  -- `signature_at`
   unfoldable pub signatureAt : ℕ → Result Signature
   signatureAt i = at (u .signatures) i
 
+  -- `function_handle_at`
   unfoldable pub functionHandleAt : ℕ → Result FunctionHandle
   functionHandleAt i = at (u .functionHandles) i
 
+  -- `function_instantiation_at`
   unfoldable pub functionInstantiationAt : ℕ → Result FunctionInstantiation
   functionInstantiationAt i = at (u .functionInstantiations) i
 
+  -- `struct_def_at`
   unfoldable pub structDefAt : ℕ → Result StructDefinition
   structDefAt i = inModule (u .head) (at (u .structDefs) i)
 
+  -- `struct_instantiation_at`
   unfoldable pub structInstantiationAt : ℕ → Result StructDefInstantiation
   structInstantiationAt i = inModule (u .head) (at (u .structInstantiations) i)
 
+  -- `field_handle_at`
   unfoldable pub fieldHandleAt : ℕ → Result FieldHandle
   fieldHandleAt i = inModule (u .head) (at (u .fieldHandles) i)
 
+  -- `field_instantiation_at`
   unfoldable pub fieldInstantiationAt : ℕ → Result FieldInstantiation
   fieldInstantiationAt i = inModule (u .head) (at (u .fieldInstantiations) i)
 
+  -- `constant_at`: the constant's type
   unfoldable pub constantAt : ℕ → Result SignatureToken
   constantAt i = at (u .constants) i
 
@@ -129,11 +148,11 @@ pub record StructWith : Type 0 where
 
 module _ (u : CompiledUnit) where
   -- not generic: no type arguments
-  unfoldable pub plain : ℕ → Result StructWith
-  plain i = structDefAt u i >>? λ def. ok (record { def = def; typeArgs = [] })
+  unfoldable pub plainStruct : ℕ → Result StructWith
+  plainStruct i = structDefAt u i >>? λ def. ok (record { def = def; typeArgs = [] })
 
   -- generic: instantiation, definition, signature
-  unfoldable pub generic : ℕ → Result StructWith
-  generic i =
+  unfoldable pub genericStruct : ℕ → Result StructWith
+  genericStruct i =
       structInstantiationAt u i >>? λ inst. structDefAt u (inst .def) >>? λ def.
       signatureAt u (inst .typeParameters) >>? λ typeArgs. ok (record { def = def; typeArgs = typeArgs })

@@ -11,12 +11,14 @@ use Rattle.status.specs.declared.StatusCode.the-variants.{«EMPTY_STACK», «NO
 use Rattle.definitions.specs.Result.{Result, ok, err}
 use Rattle.definitions.specs.SignatureToken.{SignatureToken, same, encode}
 
+-- a value, a refusal, a pop and what follows it, or a push and what follows it
 pub data Program (A : Type 0) : Type 0 where
   ret : A → Program A
   refuse : StatusCode → Program A
   take : (SignatureToken → Program A) → Program A
   put : SignatureToken → Program A → Program A
 
+-- a program that leaves nothing but the stack
 abbrev pub Step : Type 0
 Step = Program (Unit {0})
 
@@ -29,9 +31,11 @@ _>>=_ (refuse status) f = refuse status
 _>>=_ (take k) f = take (λ t. k t >>= f)
 _>>=_ (put t m) f = put t (m >>= f)
 
+-- one program after another, without the first's value
 abbrev pub _>>_ : {A B : Type 0} → Program A → Program B → Program B
 _>>_ m n = m >>= (λ _. n)
 
+-- nothing more to do
 unfoldable pub done : Step
 done = ret tt
 

@@ -4,7 +4,7 @@ use mathlib.Core.List.{List, [], _∷_, _++_}
 use Prim.Native.Nat.{ℕ, _+_}
 use lib.ListN.{length, drop}
 use Rattle.definitions.specs.SignatureToken.{SignatureToken, SignatureTokens, Signature, count, encode, encodeAll}
-use Rattle.definitions.specs.Reading.{Read, read, Reader}
+use Rattle.definitions.specs.Reading.{read, Reader}
 
 -- the bytes from `at` on begin with bs
 pub record At (s : List ℕ) (at : ℕ) (bs : List ℕ) : Type 0 where

@@ -1,12 +1,11 @@
 -- The reader of a unit: document 01's section "Unit", left to right, and the refusals 1 to 8 with their bytes.
 -- Tables stand one after the other, since commands never fall. So a byte that goes on with no table is judged where `19` or `1B` is
 -- due: COMMAND if it opens no record under this head, and otherwise ORDER (it falls, is a second `19`, or comes before `19`).
-use mathlib.Core.Bool.{Bool, true, false, _&&_, not}
+use mathlib.Core.Bool.{true, false, _&&_}
 use mathlib.Core.List.{List, [], _∷_, map}
-use Prim.Native.Nat.{ℕ, zero, suc, _+_}
+use Prim.Native.Nat.{ℕ, zero, suc}
 use lib.Dec.{ltb, leb, eqb}
 use lib.ListN.{length, getD}
-use Rattle.status.specs.declared.StatusCode.{StatusCode}
 use Rattle.status.specs.declared.StatusCode.the-variants.{«TOO_LONG», COMMAND, ORDER, VALUE, DEPTH, BLOCK, TRAILING}
 use Rattle.definitions.specs.AbilitySet.{AbilitySet}
 use Rattle.definitions.specs.SignatureToken.{SignatureToken, Signature, arguments, StructInstantiation}
@@ -65,9 +64,11 @@ byteUpTo most = do
   need (leb b most) VALUE p
   give b
 
+-- an ability set: a byte of 0 to 15
 unfoldable pub ability : Reader AbilitySet
 ability = byteUpTo 15
 
+-- a phantom byte, 0 or 1
 unfoldable pub structTypeParameter : Reader StructTypeParameter
 structTypeParameter = do
   b ← byteUpTo 1
@@ -148,6 +149,7 @@ functionView signatures = do
 
 -- ── code ──
 
+-- the rest of an instruction after its opcode, which stood at p
 unfoldable pub operands : ℕ → InstructionForm → Reader Bytecode
 operands p (plain i) = give i
 operands p (unkept n i) = do
@@ -166,6 +168,7 @@ operands p (counted f) = do
 operands p InstructionForm.unknown = fail COMMAND p
 
 module _ (commands : Commands) where
+  -- an opcode and its operands
   unfoldable pub instruction : Reader Bytecode
   instruction = do
     p ← here
@@ -235,6 +238,7 @@ pub record Decoded : Type 0 where
   pub blocks : List (Placed Block)
   pub code : List (Placed Bytecode)
 
+-- a table without the places of its records
 unfoldable pub items : {A : Type 0} → List (Placed A) → List A
 items l = map (λ (p : Placed _). p .item) l
 
@@ -282,13 +286,16 @@ pub data HeadCommand : Type 0 where
   opened : Head → HeadCommand
   unopened : HeadCommand
 
+-- the head byte as a command; any other opens nothing
 abbrev pub headCommand : ℕ → HeadCommand
 headCommand c = getD (unopened ∷ opened Module ∷ opened Script ∷ []) c unopened
 
+-- a unit after its head byte; an unknown head is refused at byte 0
 unfoldable pub unitAfterHead : HeadCommand → Reader Decoded
 unitAfterHead (opened head) = unitUnder head
 unitAfterHead unopened = fail COMMAND 0
 
+-- a head byte, and the unit under it
 unfoldable pub unit : Reader Decoded
 unit = do
   c ← byte

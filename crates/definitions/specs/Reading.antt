@@ -8,10 +8,12 @@ use lib.ListN.{length, getD}
 use Rattle.status.specs.declared.StatusCode.{StatusCode}
 use Rattle.status.specs.declared.StatusCode.the-variants.{SHORT}
 
+-- a value and the next byte's position, or a status and the position that it is about
 pub data Read (A : Type 0) : Type 0 where
   read : A → ℕ → Read A
   stop : StatusCode → ℕ → Read A
 
+-- what reads an A, of the unit's bytes and a position
 abbrev pub Reader : Type 0 → Type 0
 Reader A = List ℕ → ℕ → Read A
 
@@ -26,12 +28,15 @@ infixl 30 _>>_
 unfoldable pub _>>=_ : {A B : Type 0} → Reader A → (A → Reader B) → Reader B
 _>>=_ m f s at = next (m s at) (λ a e. f a s e)
 
+-- one reader after another, without the first's value
 unfoldable pub _>>_ : {A B : Type 0} → Reader A → Reader B → Reader B
 _>>_ m n s at = next (m s at) (λ _ e. n s e)
 
+-- a value, with no byte read
 unfoldable pub give : {A : Type 0} → A → Reader A
 give a s at = read a at
 
+-- a refusal of the byte p
 unfoldable pub fail : {A : Type 0} → StatusCode → ℕ → Reader A
 fail status p s at = stop status p
 
@@ -44,6 +49,7 @@ unfoldable pub need : Bool → StatusCode → ℕ → Reader (Unit {0})
 need true status p s at = read tt at
 need false status p s at = stop status p
 
+-- the next byte
 unfoldable pub byte : Reader ℕ
 byte s at = elim (ltb at (length s)) [ true ↦ read (getD s at 0) (at + 1) | false ↦ stop SHORT (length s) ]
 
@@ -83,6 +89,7 @@ pub record Placed (A : Type 0) : Type 0 where
   pub start : ℕ
   pub item : A
 
+-- what is read, with the place of its first byte
 unfoldable pub placed : {A : Type 0} → Reader A → Reader (Placed A)
 placed r = do
   p ← here

@@ -23,6 +23,7 @@ afterSignature bytes = 0x01 ∷ 0x11 ∷ 0x00 ∷ bytes
 abbrev pub afterFunction : List ℕ → List ℕ
 afterFunction bytes = emptyFunction 0x01 ++ bytes
 
+-- what document 01 and its order of refusals imply
 abbrev pub furtherReading : List Row
 furtherReading =
     -- 9 comes first; the longest unit is 32,768 bytes
@@ -87,6 +88,7 @@ furtherReading =
     anyIndex : List ℕ
     anyIndex = afterSignature (concat (map (λ c. c ∷ replicate 4 0xFF) (0x12 ∷ 0x13 ∷ 0x15 ∷ 0x16 ∷ 0x17 ∷ [])) ++ 0x19 ∷ replicate 7 0x00)
 
+-- rows 1 to 9, and these
 abbrev pub readingRows : List Row
 readingRows = take 9 (drop 1 rows) ++ furtherReading
 

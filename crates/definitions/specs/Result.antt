@@ -7,6 +7,7 @@ use lib.ListN.{getElem?}
 use Rattle.status.specs.declared.StatusCode.{StatusCode}
 use Rattle.status.specs.declared.StatusCode.the-variants.{«OUT_OF_TABLE»}
 
+-- `Ok` or `Err`
 pub data Result (A : Type 0) : Type 0 where
   ok : A → Result A
   err : StatusCode → Result A

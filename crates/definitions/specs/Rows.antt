@@ -1,7 +1,7 @@
 -- Document 01's table of verdicts: each row's example computes from its bytes to the number and the position that the row has.
 use mathlib.Core.Path.{_≡_, refl}
 use mathlib.Core.List.{List, [], _∷_, _++_, map}
-use Prim.Native.Nat.{ℕ, zero, suc}
+use Prim.Native.Nat.{ℕ, zero, suc, _^_}
 use lib.ListN.{length, replicate, set, take, drop}
 use Rattle.status.specs.declared.StatusCode.{StatusCode}
 use Rattle.status.specs.declared.StatusCode.the-variants.{«TOO_LONG», SHORT, COMMAND, ORDER, VALUE, DEPTH, BLOCK, TRAILING, AREA, «EMPTY_STACK», «OUT_OF_TABLE», «NO_ROOM», HEIGHT, «NEGATIVE_STACK_SIZE_WITHIN_BLOCK», «POSITIVE_STACK_SIZE_AT_BLOCK_END», «INVALID_OPERATION_IN_SCRIPT», «VERIFIER_INVARIANT_VIOLATION», «BORROWFIELD_TYPE_MISMATCH_ERROR», «BORROWFIELD_BAD_FIELD_ERROR», «BORROWLOC_REFERENCE_ERROR», «BORROWGLOBAL_TYPE_MISMATCH_ERROR», «BORROWGLOBAL_WITHOUT_KEY_ABILITY», «CALL_TYPE_MISMATCH_ERROR», «PACK_TYPE_MISMATCH_ERROR», «UNPACK_TYPE_MISMATCH_ERROR», «EXISTS_WITHOUT_KEY_ABILITY_OR_BAD_ARGUMENT», «MOVEFROM_WITHOUT_KEY_ABILITY», «MOVEFROM_TYPE_MISMATCH_ERROR», «MOVETO_WITHOUT_KEY_ABILITY», «MOVETO_TYPE_MISMATCH_ERROR», «TYPE_MISMATCH», «POP_WITHOUT_DROP_ABILITY», «BR_TYPE_MISMATCH_ERROR», «STLOC_TYPE_MISMATCH_ERROR», «ABORT_TYPE_MISMATCH_ERROR», «RET_TYPE_MISMATCH_ERROR», «FREEZEREF_TYPE_MISMATCH_ERROR», «COPYLOC_WITHOUT_COPY_ABILITY», «READREF_WITHOUT_COPY_ABILITY», «READREF_TYPE_MISMATCH_ERROR», «WRITEREF_NO_MUTABLE_REFERENCE_ERROR», «WRITEREF_WITHOUT_DROP_ABILITY», «WRITEREF_TYPE_MISMATCH_ERROR», «INTEGER_OP_TYPE_MISMATCH_ERROR», «BOOLEAN_OP_TYPE_MISMATCH_ERROR», «EQUALITY_OP_TYPE_MISMATCH_ERROR»}
@@ -9,7 +9,9 @@ use Rattle.status.specs.declared.Position.the-variants.{Byte, BlockStart, Instr
 use Rattle.status.specs.declared.Verdict.{Verdict}
 use Rattle.status.specs.declared.Verdict.the-variants.{Accepted, Refused}
 use Rattle.status.specs.Verdict.{numberOf}
-use Rattle.definitions.specs.SignatureToken.{SignatureToken, Signature, Bool′, U8, U64, Address, Signer, StructInstantiation, Reference, MutableReference, []ᵗ, _∷ᵗ_}
+use Rattle.definitions.specs.SignatureToken.{Signature, Bool′, U8, U64, Address, Signer, Struct, StructInstantiation, Reference, MutableReference, []ᵗ, _∷ᵗ_}
+use Rattle.definitions.specs.Result.{err}
+use Rattle.definitions.specs.StackUsage.{heightAfter, require}
 use Rattle.definitions.specs.Calls.{Call, readUnit, stackUsage, types, both, answer}
 use Rattle.definitions.specs.Units.{listing, emptyFunction, block, codeOf, bare, S, K, N, withLocals, holding}
 
@@ -20,6 +22,7 @@ pub record Row : Type 0 where
   pub area : ℕ
   pub verdict : Verdict
 
+-- a row, field by field
 abbrev pub row : Call → List ℕ → ℕ → Verdict → Row
 row call unit area verdict = record { call = call; unit = unit; area = area; verdict = verdict }
 
@@ -39,6 +42,7 @@ illTyped offset unit status = row types unit 16384 (Refused status (Instruction 
 abbrev pub on : Signature → List ℕ → StatusCode → Row
 on stack instruction status = illTyped (length stack) (holding stack instruction) status
 
+-- a script whose one instruction is Pack
 abbrev pub packInScript : List ℕ
 packInScript = bare 0x02 ((0x13 ∷ 0 ∷ 0 ∷ []) ∷ [])
 
@@ -134,6 +138,7 @@ rows =
 
 -- ── the statements ──
 
+-- the verdict that a row has
 abbrev pub due : Row → Verdict
 due r = r .verdict
 
@@ -141,6 +146,7 @@ due r = r .verdict
 abbrev pub answeredBy : Call → Row → Verdict
 answeredBy call r = answer call (r .unit) (r .area)
 
+-- what a row's own call answers
 abbrev pub answered : Row → Verdict
 answered r = answeredBy (r .call) r
 
@@ -168,6 +174,7 @@ usage-rows-by-both = refl
 
 -- ── further rows ──
 
+-- the other calls, and the order of refusals within one instruction
 abbrev pub furtherRows : List Row
 furtherRows =
     -- the longest area
@@ -183,6 +190,16 @@ furtherRows =
     -- 16 by the other calls
     ∷ row stackUsage packInScript 16384 (Refused «INVALID_OPERATION_IN_SCRIPT» None)
     ∷ row both packInScript 16384 (Refused «INVALID_OPERATION_IN_SCRIPT» None)
+    -- 13 is asked of the height after the pops: 2^64 - 1 is reached
+    ∷ unbalanced ((0x0C ∷ []) ∷ (0x45 ∷ 0 ∷ 0 ∷ replicate 8 0xFF) ∷ []) «POSITIVE_STACK_SIZE_AT_BLOCK_END»
+    -- VecSwap pops three: LdTrue, LdTrue, LdTrue, VecSwap
+    ∷ row stackUsage (bare 0x01 (replicate 3 (0x0C ∷ []) ++ ((0x46 ∷ 0 ∷ 0 ∷ []) ∷ []))) 16384 Accepted
+    -- abilities: an argument's failure comes before the lengths are compared
+    ∷ on (StructInstantiation 3 (U8 ∷ᵗ Struct 9 ∷ᵗ []ᵗ) ∷ []) (0x00 ∷ []) «OUT_OF_TABLE»
+    -- Eq asks the abilities of its top operand before it compares
+    ∷ on (U8 ∷ Struct 9 ∷ []) (0x2F ∷ []) «OUT_OF_TABLE»
+    -- VecPack looks up its signature before it pops
+    ∷ on [] (0x3F ∷ 9 ∷ 0 ∷ 1 ∷ replicate 7 0) «OUT_OF_TABLE»
     -- the second block is judged too: 14 has its start, 10 the Pop's offset
     ∷ row stackUsage popLast 16384 (Refused «NEGATIVE_STACK_SIZE_WITHIN_BLOCK» (BlockStart 2))
     ∷ row types popLast 16384 (Refused «EMPTY_STACK» (Instruction 3))
@@ -202,3 +219,8 @@ furtherRows =
 pub further-rows-compute : map answered furtherRows ≡ map due furtherRows
 unfolding answer
 further-rows-compute = refl
+
+-- pops past the height are 14 also where the pushes alone pass 2^64 - 1; no instruction of a unit pushes so many
+pub negative-before-height : heightAfter 0 (record { pops = 1; pushes = 2 ^ 64 }) ≡ err «NEGATIVE_STACK_SIZE_WITHIN_BLOCK»
+unfolding heightAfter require
+negative-before-height = refl

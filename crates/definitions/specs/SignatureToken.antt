@@ -1,7 +1,7 @@
 -- `SignatureToken` of file_format.rs, and document 01's section "Type": its bytes and how deep it nests.
 use mathlib.Core.Bool.{Bool, true, false}
 use mathlib.Core.List.{List, [], _∷_, _++_}
-use Prim.Native.Nat.{ℕ, zero, suc, _+_, _/_, _%_, max}
+use Prim.Native.Nat.{ℕ, suc, _/_, _%_, max}
 use native.Mathlib.Decide.{ℕ-discrete}
 
 infixr 50 _∷ᵗ_
@@ -26,14 +26,17 @@ mutual
 abbrev pub Signature : Type 0
 Signature = List SignatureToken
 
+-- a signature as type arguments
 unfoldable pub arguments : Signature → SignatureTokens
 arguments [] = []ᵗ
 arguments (t ∷ ts) = t ∷ᵗ arguments ts
 
+-- how many type arguments
 unfoldable pub count : SignatureTokens → ℕ
 count []ᵗ = 0
 count (t ∷ᵗ ts) = suc (count ts)
 
+-- a decision as a test
 abbrev pub decided : {P : Type 0} → Dec P → Bool
 decided (yes p) = true
 decided (no p) = false
@@ -99,6 +102,7 @@ pub data Outer : Type 0 where
   reference mutableReference vector : SignatureToken → Outer
   integer other : Outer
 
+-- the outermost constructor of a type
 unfoldable pub outer : SignatureToken → Outer
 outer Bool′ = other
 outer U8 = integer
@@ -113,6 +117,7 @@ outer (Reference t) = reference t
 outer (MutableReference t) = mutableReference t
 outer (TypeParameter i) = other
 
+-- whether that is u8, u64 or u128
 abbrev pub outerIsInteger : Outer → Bool
 outerIsInteger (reference t) = false
 outerIsInteger (mutableReference t) = false

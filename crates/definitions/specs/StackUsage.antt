@@ -7,7 +7,7 @@ use lib.ListN.{length, take, drop}
 use Rattle.status.specs.declared.StatusCode.{StatusCode}
 use Rattle.status.specs.declared.StatusCode.the-variants.{HEIGHT, «NEGATIVE_STACK_SIZE_WITHIN_BLOCK», «POSITIVE_STACK_SIZE_AT_BLOCK_END»}
 use Rattle.definitions.specs.Result.{Result, ok, err, _>>?_}
-use Rattle.definitions.specs.CompiledUnit.{CompiledUnit, FunctionHandle, FunctionInstantiation, StructFieldInformation, Native, Declared, StructDefinition, StructDefInstantiation, Block, signatureAt, functionHandleAt, functionInstantiationAt, structDefAt, structInstantiationAt}
+use Rattle.definitions.specs.CompiledUnit.{CompiledUnit, FunctionHandle, StructFieldInformation, Native, Declared, Block, signatureAt, functionHandleAt, functionInstantiationAt, structDefAt, structInstantiationAt}
 use Rattle.definitions.specs.Bytecode.{Bytecode, Pop, Ret, BrTrue, BrFalse, Branch, LdU8, LdU64, LdU128, CastU8, CastU64, CastU128, LdConst, LdTrue, LdFalse, CopyLoc, MoveLoc, StLoc, Call, CallGeneric, Pack, PackGeneric, Unpack, UnpackGeneric, ReadRef, WriteRef, FreezeRef, MutBorrowLoc, ImmBorrowLoc, MutBorrowField, MutBorrowFieldGeneric, ImmBorrowField, ImmBorrowFieldGeneric, MutBorrowGlobal, MutBorrowGlobalGeneric, ImmBorrowGlobal, ImmBorrowGlobalGeneric, Add, Sub, Mul, Mod, Div, BitOr, BitAnd, Xor, Or, And, Not, Eq, Neq, Lt, Gt, Le, Ge, Abort, Nop, Exists, ExistsGeneric, MoveFrom, MoveFromGeneric, MoveTo, MoveToGeneric, Shl, Shr, VecPack, VecLen, VecImmBorrow, VecMutBorrow, VecPushBack, VecPopBack, VecUnpack, VecSwap}
 
 -- the pair `(num_pops, num_pushes)`
@@ -26,14 +26,17 @@ fieldCount Native = 0
 fieldCount (Declared fields) = length fields
 
 module _ (u : CompiledUnit) where
+  -- a call pops its parameters and pushes its returns
   unfoldable pub callEffect : FunctionHandle → Result Effect
   callEffect handle =
       signatureAt u (handle .parameters) >>? λ parameters. signatureAt u (handle .return) >>? λ returns.
       length parameters ⇒ length returns
 
+  -- the fields of a struct definition, by its index
   unfoldable pub fieldCountAt : ℕ → Result ℕ
   fieldCountAt idx = structDefAt u idx >>? λ def. ok (fieldCount (def .fieldInformation))
 
+  -- the fields of the definition that an instantiation names
   unfoldable pub fieldCountOfInstantiation : ℕ → Result ℕ
   fieldCountOfInstantiation idx = structInstantiationAt u idx >>? λ inst. fieldCountAt (inst .def)
 
@@ -133,6 +136,7 @@ unfoldable pub heightOver : CompiledUnit → ℕ → List Bytecode → Result �
 heightOver u h [] = ok h
 heightOver u h (i ∷ is) = instructionEffect u i >>? λ e. heightAfter h e >>? λ h′. heightOver u h′ is
 
+-- a block leaves the height at 0
 abbrev pub atBlockEnd : ℕ → Result (Unit {0})
 atBlockEnd zero = ok tt
 atBlockEnd (suc h) = err «POSITIVE_STACK_SIZE_AT_BLOCK_END»

@@ -1,9 +1,10 @@
--- The helper functions for types at the end of type_safety.rs: `materialize_type`, `instantiate`, `get_vector_element_type`.
+-- The helper functions for types at the end of type_safety.rs: `materialize_type`, `instantiate`, `get_vector_element_type`; and
+-- `is_reference` and `is_mutable_reference` of file_format.rs, with what a reference refers to.
 use mathlib.Core.Bool.{Bool, true, false, cond}
-use mathlib.Core.List.{List, [], _∷_}
+use mathlib.Core.List.{[], _∷_}
 use mathlib.Core.Option.{Option, some, none}
 use Prim.Native.Nat.{ℕ}
-use Rattle.definitions.specs.Result.{Result, ok, err, _>>?_, at}
+use Rattle.definitions.specs.Result.{Result, ok, _>>?_, at}
 use Rattle.definitions.specs.SignatureToken.{SignatureToken, SignatureTokens, Signature, arguments, Bool′, U8, U64, U128, Address, Signer, Vector, Struct, StructInstantiation, Reference, MutableReference, TypeParameter, []ᵗ, _∷ᵗ_, Outer, reference, mutableReference, vector, integer, other, outer}
 
 -- `materialize_type`: Struct where there are no arguments
@@ -46,6 +47,7 @@ innerOfOuter (vector t) = none
 innerOfOuter integer = none
 innerOfOuter other = none
 
+-- what a reference of either kind refers to
 unfoldable pub inner : SignatureToken → Option SignatureToken
 inner t = innerOfOuter (outer t)
 
@@ -57,9 +59,11 @@ mutableInnerOfOuter (vector t) = none
 mutableInnerOfOuter integer = none
 mutableInnerOfOuter other = none
 
+-- what a `&mut` refers to
 unfoldable pub mutableInner : SignatureToken → Option SignatureToken
 mutableInner t = mutableInnerOfOuter (outer t)
 
+-- whether there is one
 abbrev pub isSome : {A : Type 0} → Option A → Bool
 isSome none = false
 isSome (some a) = true
@@ -76,6 +80,7 @@ isMutableReference t = isSome (mutableInner t)
 unfoldable pub referred : Bool → SignatureToken → Option SignatureToken
 referred mutOnly t = cond mutOnly (mutableInner t) (inner t)
 
+-- `Vector(element)`
 abbrev pub elementOfOuter : Outer → Option SignatureToken
 elementOfOuter (reference t) = none
 elementOfOuter (mutableReference t) = none
@@ -83,6 +88,7 @@ elementOfOuter (vector t) = some t
 elementOfOuter integer = none
 elementOfOuter other = none
 
+-- the element of a vector, where there is one
 abbrev pub elementOf : Option SignatureToken → Option SignatureToken
 elementOf none = none
 elementOf (some t) = elementOfOuter (outer t)

@@ -1,18 +1,17 @@
 -- type_safety.rs: `verify_instr` and the functions below it, each as a program of pops and pushes, in the Rust's order of refusals.
-use mathlib.Core.Bool.{Bool, true, false, _&&_, _||_, not}
-use mathlib.Core.List.{List, [], _∷_, reverse}
-use mathlib.Core.Option.{Option, some, none}
+use mathlib.Core.Bool.{Bool, true, false, _&&_, not}
+use mathlib.Core.List.{List, [], reverse}
 use Prim.Native.Nat.{ℕ}
 use Rattle.status.specs.declared.StatusCode.{StatusCode}
 use Rattle.status.specs.declared.StatusCode.the-variants.{«BORROWFIELD_TYPE_MISMATCH_ERROR», «BORROWFIELD_BAD_FIELD_ERROR», «BORROWLOC_REFERENCE_ERROR», «BORROWGLOBAL_TYPE_MISMATCH_ERROR», «BORROWGLOBAL_WITHOUT_KEY_ABILITY», «CALL_TYPE_MISMATCH_ERROR», «PACK_TYPE_MISMATCH_ERROR», «UNPACK_TYPE_MISMATCH_ERROR», «EXISTS_WITHOUT_KEY_ABILITY_OR_BAD_ARGUMENT», «MOVEFROM_WITHOUT_KEY_ABILITY», «MOVEFROM_TYPE_MISMATCH_ERROR», «MOVETO_WITHOUT_KEY_ABILITY», «MOVETO_TYPE_MISMATCH_ERROR», «TYPE_MISMATCH», «POP_WITHOUT_DROP_ABILITY», «BR_TYPE_MISMATCH_ERROR», «STLOC_TYPE_MISMATCH_ERROR», «ABORT_TYPE_MISMATCH_ERROR», «RET_TYPE_MISMATCH_ERROR», «FREEZEREF_TYPE_MISMATCH_ERROR», «COPYLOC_WITHOUT_COPY_ABILITY», «READREF_WITHOUT_COPY_ABILITY», «READREF_TYPE_MISMATCH_ERROR», «WRITEREF_NO_MUTABLE_REFERENCE_ERROR», «WRITEREF_WITHOUT_DROP_ABILITY», «WRITEREF_TYPE_MISMATCH_ERROR», «INTEGER_OP_TYPE_MISMATCH_ERROR», «BOOLEAN_OP_TYPE_MISMATCH_ERROR», «EQUALITY_OP_TYPE_MISMATCH_ERROR»}
 use Rattle.definitions.specs.Result.{Result, ok, err, _>>?_, orErr, at}
-use Rattle.definitions.specs.AbilitySet.{AbilitySet, hasCopy, hasDrop, hasKey}
+use Rattle.definitions.specs.AbilitySet.{hasCopy, hasDrop, hasKey}
 use Rattle.definitions.specs.SignatureToken.{SignatureToken, Signature, Bool′, U8, U64, U128, Address, Signer, Vector, Reference, same, isInteger}
 use Rattle.definitions.specs.Bytecode.{Bytecode, Pop, Ret, BrTrue, BrFalse, Branch, LdU8, LdU64, LdU128, CastU8, CastU64, CastU128, LdConst, LdTrue, LdFalse, CopyLoc, MoveLoc, StLoc, Call, CallGeneric, Pack, PackGeneric, Unpack, UnpackGeneric, ReadRef, WriteRef, FreezeRef, MutBorrowLoc, ImmBorrowLoc, MutBorrowField, MutBorrowFieldGeneric, ImmBorrowField, ImmBorrowFieldGeneric, MutBorrowGlobal, MutBorrowGlobalGeneric, ImmBorrowGlobal, ImmBorrowGlobalGeneric, Add, Sub, Mul, Mod, Div, BitOr, BitAnd, Xor, Or, And, Not, Eq, Neq, Lt, Gt, Le, Ge, Abort, Nop, Exists, ExistsGeneric, MoveFrom, MoveFromGeneric, MoveTo, MoveToGeneric, Shl, Shr, VecPack, VecLen, VecImmBorrow, VecMutBorrow, VecPushBack, VecPopBack, VecUnpack, VecSwap}
-use Rattle.definitions.specs.CompiledUnit.{CompiledUnit, FunctionHandle, FunctionInstantiation, StructFieldInformation, Native, Declared, StructDefinition, StructDefInstantiation, FieldHandle, FieldInstantiation, StructWith, signatureAt, functionHandleAt, functionInstantiationAt, structDefAt, structInstantiationAt, fieldHandleAt, fieldInstantiationAt, constantAt, localAt, elementTypeAt, plain, generic}
+use Rattle.definitions.specs.CompiledUnit.{CompiledUnit, FunctionHandle, StructFieldInformation, Native, Declared, StructWith, signatureAt, functionHandleAt, functionInstantiationAt, structDefAt, structInstantiationAt, fieldHandleAt, fieldInstantiationAt, constantAt, localAt, elementTypeAt, plainStruct, genericStruct}
 use Rattle.definitions.specs.Abilities.{abilities}
 use Rattle.definitions.specs.Substitution.{materializeType, instantiate, instantiateEach, inner, mutableInner, isReference, isMutableReference, getVectorElementType, referenceTo}
-use Rattle.definitions.specs.Machine.{Program, Step, _>>=_, _>>_, done, pop, push, look, check, popEach, pushEach, popN, pushN}
+use Rattle.definitions.specs.Machine.{Step, _>>=_, _>>_, done, pop, push, look, check, popEach, pushEach, popN, pushN}
 
 -- `StructFieldInformation::Declared(fields)`, or a refusal
 abbrev pub declaredFields : StatusCode → StructFieldInformation → Result (List SignatureToken)
@@ -360,10 +359,10 @@ module _ (u : CompiledUnit) where
   verifyInstr (StLoc idx) = stLoc idx
   verifyInstr (Call idx) = functionCall idx
   verifyInstr (CallGeneric idx) = functionCallGeneric idx
-  verifyInstr (Pack idx) = pack (plain u idx)
-  verifyInstr (PackGeneric idx) = pack (generic u idx)
-  verifyInstr (Unpack idx) = unpack (plain u idx)
-  verifyInstr (UnpackGeneric idx) = unpack (generic u idx)
+  verifyInstr (Pack idx) = pack (plainStruct u idx)
+  verifyInstr (PackGeneric idx) = pack (genericStruct u idx)
+  verifyInstr (Unpack idx) = unpack (plainStruct u idx)
+  verifyInstr (UnpackGeneric idx) = unpack (genericStruct u idx)
   verifyInstr ReadRef = readRef
   verifyInstr WriteRef = writeRef
   verifyInstr FreezeRef = freezeRef
@@ -396,12 +395,12 @@ module _ (u : CompiledUnit) where
   verifyInstr Ge = comparison
   verifyInstr Abort = popExpecting U64 «ABORT_TYPE_MISMATCH_ERROR»
   verifyInstr Nop = done
-  verifyInstr (Exists idx) = exists (plain u idx)
-  verifyInstr (ExistsGeneric idx) = exists (generic u idx)
-  verifyInstr (MoveFrom idx) = moveFrom (plain u idx)
-  verifyInstr (MoveFromGeneric idx) = moveFrom (generic u idx)
-  verifyInstr (MoveTo idx) = moveTo (plain u idx)
-  verifyInstr (MoveToGeneric idx) = moveTo (generic u idx)
+  verifyInstr (Exists idx) = exists (plainStruct u idx)
+  verifyInstr (ExistsGeneric idx) = exists (genericStruct u idx)
+  verifyInstr (MoveFrom idx) = moveFrom (plainStruct u idx)
+  verifyInstr (MoveFromGeneric idx) = moveFrom (genericStruct u idx)
+  verifyInstr (MoveTo idx) = moveTo (plainStruct u idx)
+  verifyInstr (MoveToGeneric idx) = moveTo (genericStruct u idx)
   verifyInstr Shl = shift
   verifyInstr Shr = shift
   verifyInstr (VecPack idx num) = vecPack idx num

@@ -4,6 +4,7 @@ use Prim.Native.Nat.{ℕ, suc, _-_}
 use lib.ListN.{length, replicate}
 use Rattle.definitions.specs.SignatureToken.{SignatureToken, Signature, Bool′, U8, U64, Struct, encode}
 
+-- one list after another
 abbrev pub concat : List (List ℕ) → List ℕ
 concat l = foldr _++_ [] l
 
@@ -17,10 +18,11 @@ listing =
 abbrev pub emptyFunction : ℕ → List ℕ
 emptyFunction head = head ∷ 0x11 ∷ 0x00 ∷ 0x19 ∷ replicate 7 0x00
 
--- records `1A` and `1B` with numbers under 256
+-- a block record, with numbers under 256
 abbrev pub block : ℕ → ℕ → List ℕ
 block first last = 0x1A ∷ first ∷ 0 ∷ last ∷ 0 ∷ []
 
+-- a code record, of fewer than 256 instructions
 abbrev pub codeOf : List (List ℕ) → List ℕ
 codeOf code = 0x1B ∷ length code ∷ 0 ∷ concat code
 
@@ -38,12 +40,15 @@ bare head code = emptyFunction head ++ asBlock code
 abbrev pub S : SignatureToken
 S = Struct 0
 
+-- K has key alone
 abbrev pub K : SignatureToken
 K = Struct 1
 
+-- N is native
 abbrev pub N : SignatureToken
 N = Struct 2
 
+-- a signature record
 abbrev pub signature : Signature → List ℕ
 signature ts = 0x11 ∷ length ts ∷ concat (map encode ts)
 
@@ -75,6 +80,7 @@ tables locals =
     ∷ (0x19 ∷ 0 ∷ 0 ∷ 2 ∷ 0 ∷ 4 ∷ 0 ∷ 0 ∷ [])
     ∷ []
 
+-- the tables with those locals, and this code
 abbrev pub withLocals : Signature → List (List ℕ) → List ℕ
 withLocals locals code = concat (tables locals) ++ asBlock code
 

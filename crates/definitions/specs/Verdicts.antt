@@ -1,6 +1,6 @@
 -- The four public calls, as functions of the unit's bytes and the area's length; and what each leaves in the area. Document 01,
 -- "Verdict": AREA first, then the unit is read, then the passes.
-use mathlib.Core.Bool.{Bool, true, false}
+use mathlib.Core.Bool.{true, false}
 use mathlib.Core.List.{List}
 use Prim.Native.Nat.{ℕ}
 use lib.Dec.{leb}
@@ -18,6 +18,7 @@ use Rattle.definitions.specs.Verify.{stackUsage, typeSafety, bothPasses}
 abbrev pub longestArea : ℕ
 longestArea = 65535
 
+-- a refusal of the reader ends it; a unit that was read is judged
 abbrev pub afterReading : Read Decoded → (CompiledUnit → Verdict) → Verdict
 afterReading (read d e) judge = judge (compiledUnit d)
 afterReading (stop status p) judge = Refused status (Byte p)

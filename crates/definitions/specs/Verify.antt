@@ -1,6 +1,6 @@
 -- The two passes over the listed blocks: `StackUsageVerifier::verify`, `verify` of type_safety.rs, and both in turn.
 use mathlib.Core.List.{List, [], _∷_}
-use Prim.Native.Nat.{ℕ, zero, suc}
+use Prim.Native.Nat.{ℕ, suc}
 use Rattle.status.specs.declared.StatusCode.{StatusCode}
 use Rattle.status.specs.declared.Position.the-variants.{BlockStart, Instruction}
 use Rattle.status.specs.declared.Verdict.{Verdict}
@@ -36,6 +36,7 @@ pub data Walked : Type 0 where
   stands : Stack → Walked
   stopped : StatusCode → ℕ → Stack → Walked
 
+-- go on from the stack that a walk left; a refusal stays
 abbrev pub onward : Walked → (Stack → Walked) → Walked
 onward (stands s) f = f s
 onward (stopped status offset s) f = stopped status offset s
@@ -60,6 +61,7 @@ module _ (u : CompiledUnit) (area : ℕ) where
   walk [] s = stands s
   walk (b ∷ bs) s = onward (walkBlock b s) (walk bs)
 
+-- a walk's verdict: a refusal carries its instruction's offset
 abbrev pub walkVerdict : Walked → Verdict
 walkVerdict (stands s) = Accepted
 walkVerdict (stopped status offset s) = refusal status (Instruction offset)
@@ -70,6 +72,7 @@ typeSafety u area = walkVerdict (walk u area (u .blocks) [])
 
 -- ── both ──
 
+-- the second verdict where the first accepts
 abbrev pub ifAccepted : Verdict → Verdict → Verdict
 ifAccepted Accepted v = v
 ifAccepted (Refused status position) v = Refused status position

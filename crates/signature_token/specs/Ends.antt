@@ -1,11 +1,11 @@
 -- Where a type ends, by what `token_at` found of it; and how a walk's measure falls: unread bytes first, then how many types are left.
-use mathlib.Core.Path.{_≡_, refl, sym, ap, _∙_}
+use mathlib.Core.Path.{_≡_}
 use mathlib.Core.List.{List}
 use Prim.Native.Nat.{ℕ, _+_, _-_, _*_, _≤_, _<_}
 use native.Mathlib.Omega.{arith}
 use lib.ListN.{length, getD}
-use Rattle.definitions.specs.SignatureToken.{SignatureToken, encode, encodeAll}
-use Rattle.definitions.specs.Places.{At, TypeAt, TypesAt, EndOfType, EndOfTypes}
+use Rattle.definitions.specs.SignatureToken.{encode}
+use Rattle.definitions.specs.Places.{TypeAt, EndOfType, EndOfTypes}
 use Rattle.theorems.specs.AtLaws.{at-room}
 use Rattle.file_format.specs.declared.StructHandleIndex.{StructHandleIndex}
 use Rattle.signature_token.specs.declared.Wrapper.{Wrapper}

@@ -1,19 +1,18 @@
 -- What a step asks of an operand's kind: whether it is an integer, and what it refers to.
 use mathlib.Core.Path.{_≡_, refl, sym, ap, _∙_}
-use mathlib.Core.Bool.{Bool, true, false, _&&_}
+use mathlib.Core.Bool.{Bool, false, _&&_}
 use mathlib.Core.List.{List}
-use Prim.Native.Nat.{ℕ, _+_}
+use Prim.Native.Nat.{ℕ}
 use lib.Dec.{leb, ltb}
-use Rattle.definitions.specs.SignatureToken.{SignatureToken, Bool′, U8, U64, U128, Address, Signer, Vector as VectorOf, Struct as StructOf, StructInstantiation as InstantiationOf, Reference as ReferenceOf, MutableReference as MutableReferenceOf, TypeParameter as ParameterOf, encode, outer, isInteger}
-use Rattle.definitions.specs.Places.{At, TypeAt}
+use Rattle.definitions.specs.SignatureToken.{SignatureToken, Bool′, U8, U64, U128, Address, Signer, Vector as VectorOf, Struct as StructOf, StructInstantiation as InstantiationOf, Reference as ReferenceOf, MutableReference as MutableReferenceOf, TypeParameter as ParameterOf, outer, isInteger}
+use Rattle.definitions.specs.Places.{TypeAt}
 use Rattle.signature_token.specs.declared.Wrapper.{Wrapper}
 use Rattle.signature_token.specs.declared.Wrapper.the-variants as wrapper
 use Rattle.signature_token.specs.declared.Token.{Token}
 use Rattle.signature_token.specs.declared.Token.the-variants.{Leaf, Wrapped, Struct, StructInstantiation, TypeParameter}
 use Rattle.signature_token.specs.declared.Referent.{Referent}
 use Rattle.signature_token.specs.declared.Referent.the-variants.{Reference, MutableReference, Value}
-use Rattle.signature_token.specs.Token.{tokenOf, TokenAt, wrappedBy}
-use Rattle.signature_token.specs.TokenLaws.{IsWrapped, wrapped-is}
+use Rattle.signature_token.specs.Token.{tokenOf, TokenAt}
 
 -- ── the words ──
 

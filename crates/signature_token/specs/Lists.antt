@@ -1,15 +1,14 @@
 -- A walk along the types of a list: what is left of them at each turn, and the places of those that are passed.
 use mathlib.Core.Path.{_≡_, refl, sym, ap, _∙_}
 use mathlib.Core.List.{List, [], _∷_, _++_, append-assoc, append-nil}
-use Prim.Native.Nat.{ℕ, zero, suc, _+_, _-_, _≤_, _<_}
+use Prim.Native.Nat.{ℕ, _+_, _-_, _≤_, _<_}
 use native.Mathlib.Omega.{arith}
 use native.Mathlib.Numerals.{add-one}
 use lib.ListN.{length, take, set, length-set}
 use lib.Seq.{take-suc-set}
-use Rattle.definitions.specs.SignatureToken.{SignatureToken, SignatureTokens, Signature, []ᵗ, _∷ᵗ_, count, encode, encodeAll}
+use Rattle.definitions.specs.SignatureToken.{SignatureToken, SignatureTokens, Signature, count, encode, encodeAll}
 use Rattle.definitions.specs.Places.{At, TypeAt, TypesAt, EndOfType, EndOfTypes, Standing, none, more}
 use Rattle.theorems.specs.Bytes.{listOf}
-use Rattle.signature_token.specs.Token.{encode-pos, at-some}
 use Rattle.signature_token.specs.TokenLaws.{IsMore, more-is, none-is}
 
 -- of the n types ts at `at`, i are passed and the others stand at p

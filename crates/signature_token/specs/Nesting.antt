@@ -1,12 +1,12 @@
 -- How deep a type nests, by what `token_at` found of it, and how deep the types of a list do.
 use mathlib.Core.Path.{_≡_, refl, sym, ap, _∙_}
 use mathlib.Core.List.{List}
-use Prim.Native.Nat.{ℕ, suc, _+_, _-_, _≤_, _<_, max}
+use Prim.Native.Nat.{ℕ, _+_, _≤_, _<_, max}
 use native.Mathlib.Omega.{arith}
 use lib.ListN.{length, length-append}
 use Rattle.definitions.specs.SignatureToken.{SignatureToken, SignatureTokens, Bool′, U8, U64, U128, Address, Signer, Vector as VectorOf, Struct as StructOf, StructInstantiation as InstantiationOf, Reference as ReferenceOf, MutableReference as MutableReferenceOf, TypeParameter as ParameterOf, []ᵗ, _∷ᵗ_, encode, encodeAll, depth, depthAll}
 use Rattle.theorems.specs.AtLaws.{at-room}
-use Rattle.definitions.specs.Places.{At, TypeAt, TypesAt, EndOfType}
+use Rattle.definitions.specs.Places.{TypeAt, TypesAt, EndOfType}
 use Rattle.file_format.specs.declared.StructHandleIndex.{StructHandleIndex}
 use Rattle.signature_token.specs.declared.Wrapper.{Wrapper}
 use Rattle.signature_token.specs.declared.Wrapper.the-variants as wrapper

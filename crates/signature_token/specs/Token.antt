@@ -1,10 +1,10 @@
 -- A type taken apart at its first command, and what stands below it: the words and the laws of every walk over a type's bytes.
-use mathlib.Core.Path.{_≡_, refl, sym, ap, ap₂, _∙_}
+use mathlib.Core.Path.{_≡_, refl, _∙_}
 use mathlib.Core.List.{List, [], _∷_}
-use Prim.Native.Nat.{ℕ, zero, suc, _+_, _*_, _/_, _%_, _≤_, _<_}
+use Prim.Native.Nat.{ℕ, _+_, _*_, _/_, _%_, _≤_, _<_}
 use native.Mathlib.Omega.{arith}
 use lib.ListN.{length, getD}
-use Rattle.definitions.specs.SignatureToken.{SignatureToken, SignatureTokens, Bool′, U8, U64, U128, Address, Signer, Vector as VectorOf, Struct as StructOf, StructInstantiation as InstantiationOf, Reference as ReferenceOf, MutableReference as MutableReferenceOf, TypeParameter as ParameterOf, count, encode, encodeAll}
+use Rattle.definitions.specs.SignatureToken.{SignatureToken, Bool′, U8, U64, U128, Address, Signer, Vector as VectorOf, Struct as StructOf, StructInstantiation as InstantiationOf, Reference as ReferenceOf, MutableReference as MutableReferenceOf, TypeParameter as ParameterOf, count, encode}
 use Rattle.definitions.specs.Places.{At, TypeAt}
 use Rattle.theorems.specs.AtLaws.{at-byte, at-next, at-room}
 use Rattle.theorems.specs.Bytes.{le16-back}

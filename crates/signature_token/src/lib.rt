@@ -122,13 +122,13 @@ pub fn end_of_types(s: &[u8], at: usize, n: usize) -> usize
     requires { ⌜ TypesAt (now s) at n ⌝ }
     ensures { λ r. ⌜ EndOfTypes (now (s .entry)) at n r ⌝ }
 {
-    let mut p = at;
+    let mut end = at;
     let mut i = 0;
     while i < n {
-        p = end_of_type(s, p);
+        end = end_of_type(s, end);
         i += 1;
     }
-    p
+    end
 }
 
 // The places of the n types at `at`, to the front of out; and where the last of them ends.
@@ -243,12 +243,12 @@ pub fn nesting_of_types(s: &[u8], at: usize, n: usize) -> usize
     requires { ⌜ TypesAt (now s) at n ⌝ }
     ensures { λ r. ⌜ NestingsAt (now (s .entry)) at n r ⌝ }
 {
-    let mut p = at;
+    let mut next = at;
     let mut deepest = 0;
     let mut i = 0;
     while i < n {
-        deepest = larger(deepest, nesting_of_type(s, p));
-        p = end_of_type(s, p);
+        deepest = larger(deepest, nesting_of_type(s, next));
+        next = end_of_type(s, next);
         i += 1;
     }
     deepest

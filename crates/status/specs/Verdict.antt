@@ -70,6 +70,7 @@ positionLetter (BlockStart at) = 107
 positionLetter (Instruction at) = 105
 positionLetter None = 110
 
+-- a position's number; none has 0
 abbrev pub positionPlace : Position → ℕ
 positionPlace (Byte at) = at
 positionPlace (BlockStart at) = at
@@ -81,6 +82,7 @@ abbrev pub letterOf : Verdict → ℕ
 letterOf Accepted = positionLetter None
 letterOf (Refused status position) = positionLetter position
 
+-- a verdict's place; accepted is n 0
 abbrev pub placeOf : Verdict → ℕ
 placeOf Accepted = positionPlace None
 placeOf (Refused status position) = positionPlace position

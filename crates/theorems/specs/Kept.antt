@@ -7,7 +7,7 @@ use mathlib.Core.Path.{_≡_, refl}
 use Prim.Native.Nat.{ℕ}
 use Rattle.definitions.specs.Result.{ok}
 use Rattle.definitions.specs.SignatureToken.{SignatureToken, Signature, Bool′, U8, U64, U128, Vector, Reference}
-use Rattle.definitions.specs.CompiledUnit.{CompiledUnit, StructDefinition, Declared, StructWith, signatureAt, structDefAt, constantAt, localAt, elementTypeAt, plain, generic}
+use Rattle.definitions.specs.CompiledUnit.{CompiledUnit, StructDefinition, Declared, StructWith, signatureAt, structDefAt, constantAt, localAt, elementTypeAt, plainStruct, genericStruct}
 use Rattle.definitions.specs.Substitution.{instantiate, instantiateEach, inner, mutableInner, referenceTo}
 use Rattle.definitions.specs.TypeSafety.{structType, typeFieldsSignature}
 use Rattle.theorems.specs.Lookups.{ok-same, used, declared-is}
@@ -52,15 +52,15 @@ pub record Kept (u : CompiledUnit) (I : SignatureToken → Type 0) : Type 0 wher
 -- ── structs that the steps look up, and their fields ──
 
 module _ (u : CompiledUnit) where
-  pub named-plain : (i : ℕ) (s : StructWith) → plain u i ≡ ok s → Named u s
-  unfolding plain
+  pub named-plain : (i : ℕ) (s : StructWith) → plainStruct u i ≡ ok s → Named u s
+  unfolding plainStruct
   named-plain i s e =
       let (d, ed, k) = used _ _ e in
       let r : record { def = d; typeArgs = [] } ≡ s = ok-same refl k in
       rw (← r) (record { index = i; defined = ed; args = without })
 
-  pub named-generic : (i : ℕ) (s : StructWith) → generic u i ≡ ok s → Named u s
-  unfolding generic
+  pub named-generic : (i : ℕ) (s : StructWith) → genericStruct u i ≡ ok s → Named u s
+  unfolding genericStruct
   named-generic i s e =
       let (n, en, k) = used _ _ e in
       let (d, ed, k₁) = used _ _ k in

@@ -4,7 +4,7 @@ use mathlib.Core.Bool.{Bool, true, false, cond}
 use mathlib.Core.List.{List, [], _∷_, List·Memᴰ, List·Memᴰ·head, List·Memᴰ·tail}
 use mathlib.Core.Option.{Option, some, none}
 use mathlib.Core.Path.{_≡_, refl, ap}
-use Prim.Native.Nat.{ℕ, zero, suc, _-_}
+use Prim.Native.Nat.{ℕ, zero, suc}
 use native.Mathlib.Omega.{arith}
 use lib.Dec.{T, ltb, eqb}
 use lib.ListN.{length, getElem?}
@@ -14,7 +14,7 @@ use Rattle.status.specs.Verdict.{statusNumber}
 use Rattle.definitions.specs.Result.{Result, ok, err, _>>?_, orErr, at}
 use Rattle.definitions.specs.AbilitySet.{AbilitySet, polymorphicAbilities}
 use Rattle.definitions.specs.SignatureToken.{SignatureToken, SignatureTokens, Signature, Bool′, U8, U64, U128, Address, Signer, Vector, Struct, StructInstantiation, Reference, MutableReference, TypeParameter, []ᵗ, _∷ᵗ_}
-use Rattle.definitions.specs.CompiledUnit.{CompiledUnit, Head, Module, Script, StructHandle, StructFieldInformation, Native, Declared, StructWith, inModule, signatureAt, functionHandleAt, functionInstantiationAt, structDefAt, structInstantiationAt, fieldHandleAt, fieldInstantiationAt, constantAt, localAt, elementTypeAt, plain, generic}
+use Rattle.definitions.specs.CompiledUnit.{CompiledUnit, Head, Module, Script, StructHandle, StructFieldInformation, Native, Declared, StructWith, inModule, signatureAt, functionHandleAt, functionInstantiationAt, structDefAt, structInstantiationAt, fieldHandleAt, fieldInstantiationAt, constantAt, localAt, elementTypeAt, plainStruct, genericStruct}
 use Rattle.definitions.specs.Abilities.{abilitiesIn, abilitiesOfAll, abilities}
 use Rattle.definitions.specs.Substitution.{instantiate, instantiateAll, instantiateEach}
 use Rattle.definitions.specs.TypeSafety.{declaredFields, typeFieldsSignature}
@@ -145,12 +145,12 @@ module _ (u : CompiledUnit) where
   unfolding elementTypeAt
   only-elementType i = only-then _ (only-signature i) λ s. only-at s 0 tt
 
-  pub only-plain : (i : ℕ) → Tabled (plain u i)
-  unfolding plain
+  pub only-plain : (i : ℕ) → Tabled (plainStruct u i)
+  unfolding plainStruct
   only-plain i = only-then _ (only-structDef i) λ d. only-ok
 
-  pub only-generic : (i : ℕ) → Tabled (generic u i)
-  unfolding generic
+  pub only-generic : (i : ℕ) → Tabled (genericStruct u i)
+  unfolding genericStruct
   only-generic i = only-then _ (only-structInstantiation i) λ n. only-then _ (only-structDef _) λ d. only-then _ (only-signature _) λ s. only-ok
 
 -- ── abilities and substitution ──

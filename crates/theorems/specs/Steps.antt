@@ -13,7 +13,7 @@ use Rattle.status.specs.Verdict.{statusNumber}
 use Rattle.definitions.specs.Result.{Result, ok, _>>?_}
 use Rattle.definitions.specs.SignatureToken.{SignatureToken, Signature}
 use Rattle.definitions.specs.Bytecode.{Bytecode, Pop, Ret, BrTrue, BrFalse, Branch, LdU8, LdU64, LdU128, CastU8, CastU64, CastU128, LdConst, LdTrue, LdFalse, CopyLoc, MoveLoc, StLoc, Call, CallGeneric, Pack, PackGeneric, Unpack, UnpackGeneric, ReadRef, WriteRef, FreezeRef, MutBorrowLoc, ImmBorrowLoc, MutBorrowField, MutBorrowFieldGeneric, ImmBorrowField, ImmBorrowFieldGeneric, MutBorrowGlobal, MutBorrowGlobalGeneric, ImmBorrowGlobal, ImmBorrowGlobalGeneric, Add, Sub, Mul, Mod, Div, BitOr, BitAnd, Xor, Or, And, Not, Eq, Neq, Lt, Gt, Le, Ge, Abort, Nop, Exists, ExistsGeneric, MoveFrom, MoveFromGeneric, MoveTo, MoveToGeneric, Shl, Shr, VecPack, VecLen, VecImmBorrow, VecMutBorrow, VecPushBack, VecPopBack, VecUnpack, VecSwap}
-use Rattle.definitions.specs.CompiledUnit.{CompiledUnit, FunctionHandle, StructFieldInformation, Declared, StructWith, signatureAt, functionHandleAt, structDefAt, structInstantiationAt, plain, generic}
+use Rattle.definitions.specs.CompiledUnit.{CompiledUnit, FunctionHandle, StructFieldInformation, Declared, StructWith, signatureAt, functionHandleAt, structDefAt, structInstantiationAt, plainStruct, genericStruct}
 use Rattle.definitions.specs.Substitution.{instantiateEach, inner, mutableInner, getVectorElementType}
 use Rattle.definitions.specs.Machine.{Step}
 use Rattle.definitions.specs.StackUsage.{_⇒_, instructionEffect, callEffect, fieldCount, fieldCountAt, fieldCountOfInstantiation}
@@ -49,15 +49,15 @@ abbrev countOf : StructWith → Result ℕ
 countOf s = ok (fieldCount (s .def .fieldInformation))
 
 module _ (u : CompiledUnit) where
-  plain-count : (i : ℕ) (s : StructWith) → plain u i ≡ ok s → fieldCountAt u i ≡ countOf s
-  unfolding plain fieldCountAt _>>?_
+  plain-count : (i : ℕ) (s : StructWith) → plainStruct u i ≡ ok s → fieldCountAt u i ≡ countOf s
+  unfolding plainStruct fieldCountAt _>>?_
   plain-count i s e =
       let (d, ed, k) = used (structDefAt u i) _ e in
       let r : record { def = d; typeArgs = [] } ≡ s = ok-same refl k in
       rw ed (ap countOf r)
 
-  generic-count : (i : ℕ) (s : StructWith) → generic u i ≡ ok s → fieldCountOfInstantiation u i ≡ countOf s
-  unfolding generic fieldCountOfInstantiation fieldCountAt _>>?_
+  generic-count : (i : ℕ) (s : StructWith) → genericStruct u i ≡ ok s → fieldCountOfInstantiation u i ≡ countOf s
+  unfolding genericStruct fieldCountOfInstantiation fieldCountAt _>>?_
   generic-count i s e =
       let (n, en, k) = used (structInstantiationAt u i) _ e in
       let (d, ed, k₁) = used (structDefAt u (n .def)) _ k in

@@ -1,10 +1,11 @@
+-- `end_of_type` and `end_of_types`, which call each other: each answers where the types that stand there end.
 use native.Mathlib.Omega.{arith}
 use borrow.Author.Needs.{needs}
 use Rattle.signature_token.specs.Token.{at-some}
 use Rattle.signature_token.specs.TokenLaws.{inner-type, inner-types}
 use Rattle.signature_token.specs.Lists.{Along, along-start, next-type, along-next, along-done}
 use Rattle.signature_token.specs.Ends.{typeMeasure, listMeasure, type-room, inner-falls, arguments-fall, leaf-end, wrapped-end, struct-end, instantiation-end, parameter-end}
-use Prim.Native.Nat.{ℕ, _<_, _+_, _-_, _≤_}
+use Prim.Native.Nat.{ℕ, _<_, _+_, _-_}
 use borrow.Fn.Kinds.{In}
 use borrow.Fn.PlainCycle.{Measures, is, falls, and}
 use Rattle.signature_token.proofs.end_of_type.Reads as end-of-type
@@ -44,10 +45,10 @@ end-of-types-below t =
     end-of-types.Pre
 
 abbrev end-of-types-Inv-loop : end-of-types-lts.InvT-loop
-end-of-types-Inv-loop s at n p₀ i₀ p i = Along s at n p i
+end-of-types-Inv-loop s at n end₀ i₀ end i = Along s at n end i
 
 abbrev end-of-types-μ-loop : end-of-types-lts.MeasureT-loop
-end-of-types-μ-loop s at n p₀ i₀ p i = n - i
+end-of-types-μ-loop s at n end₀ i₀ end i = n - i
 
 pub +end-of-type+end-of-types-spec : {M : Type 1} → statement M
 +end-of-type+end-of-types-spec = close μ-end-of-type μ-end-of-types (λ t. end-of-type-lts.spec (

@@ -1,10 +1,11 @@
+-- `nesting_of_type` and `nesting_of_types`, which call each other: each answers how many levels the deepest type that stands there nests.
 use native.Mathlib.Omega.{arith}
 use borrow.Author.Needs.{needs}
 use Rattle.signature_token.specs.TokenLaws.{inner-type, inner-types}
 use Rattle.signature_token.specs.Lists.{next-type}
 use Rattle.signature_token.specs.Ends.{typeMeasure, listMeasure, inner-falls, arguments-fall}
 use Rattle.signature_token.specs.Nesting.{DeepestAlong, deepest-start, deepest-next, deepest-done, nesting-fits, nestings-fit, leaf-nesting, wrapped-nesting, struct-nesting, instantiation-nesting, parameter-nesting}
-use Prim.Native.Nat.{ℕ, _<_, _+_, _-_, _≤_}
+use Prim.Native.Nat.{ℕ, _<_, _+_, _-_}
 use borrow.Fn.Kinds.{In}
 use borrow.Fn.PlainCycle.{Measures, is, falls, and}
 use Rattle.signature_token.proofs.nesting_of_type.Reads as nesting-of-type
@@ -58,10 +59,10 @@ nesting-of-types-below t =
     nesting-of-types.Pre
 
 abbrev nesting-of-types-Inv-loop : nesting-of-types-lts.InvT-loop
-nesting-of-types-Inv-loop s at n p₀ deepest₀ i₀ p deepest i = DeepestAlong s at n p deepest i
+nesting-of-types-Inv-loop s at n next₀ deepest₀ i₀ next deepest i = DeepestAlong s at n next deepest i
 
 abbrev nesting-of-types-μ-loop : nesting-of-types-lts.MeasureT-loop
-nesting-of-types-μ-loop s at n p₀ deepest₀ i₀ p deepest i = n - i
+nesting-of-types-μ-loop s at n next₀ deepest₀ i₀ next deepest i = n - i
 
 pub +nesting-of-type+nesting-of-types-spec : {M : Type 1} → statement M
 +nesting-of-type+nesting-of-types-spec =

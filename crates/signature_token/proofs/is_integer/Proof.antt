@@ -1,12 +1,9 @@
-use mathlib.Core.Path.{_≡_, sym, ap, _∙_}
+-- The answer is `isInteger` of the type that stands there: by its command for a leaf, and false for all others.
+use mathlib.Core.Path.{sym, ap, _∙_}
 use Rattle.signature_token.specs.Kinds.{integerOf, integer-by}
 use borrow.Author.Needs.{needs}
 use Rattle.signature_token.proofs.is_integer.Statement.{statement}
 use Rattle.signature_token.proofs.is_integer.Tie as tie
-use Rattle.signature_token.proofs.is_integer.Reads as reads
-use Rattle.signature_token.proofs.is_integer.Lts as lts
-use Rattle.signature_token.proofs.integer_command.Reads as integer-command-reads
-use Rattle.signature_token.proofs.token_at.Reads as token-at-reads
 
 enum-told : tie.Need-enum-told
 enum-told c = search needs

@@ -1,13 +1,10 @@
-use mathlib.Core.Path.{_≡_, sym, ap, _∙_}
-use Prim.Native.Nat.{ℕ}
+-- The answer is what the type that stands there refers to, by which kind of reference, and a value for all others.
+use mathlib.Core.Path.{sym, ap, _∙_}
 use Rattle.signature_token.specs.declared.Wrapper.{Wrapper}
 use Rattle.signature_token.specs.Kinds.{referentOf, referentBy, referent-by}
 use borrow.Author.Needs.{needs}
 use Rattle.signature_token.proofs.referent_at.Statement.{statement}
 use Rattle.signature_token.proofs.referent_at.Tie as tie
-use Rattle.signature_token.proofs.referent_at.Reads as reads
-use Rattle.signature_token.proofs.referent_at.Lts as lts
-use Rattle.signature_token.proofs.token_at.Reads as token-at-reads
 
 enum-told : tie.Need-enum-told
 enum-told c = search needs

@@ -1,11 +1,10 @@
-use Prim.Native.Nat.{_+_, _-_, _≤_}
+-- The answer is whether the two types are equal: their bytes are compared one by one, and equal bytes are equal types.
+use Prim.Native.Nat.{_-_, _≤_}
 use native.Mathlib.Omega.{arith}
 use Rattle.signature_token.specs.Token.{at-some}
 use Rattle.signature_token.specs.Same.{Alike, alike-more, span-within, same-short, same-differs, same-alike}
 use Rattle.signature_token.proofs.same_type.Statement.{statement}
 use Rattle.signature_token.proofs.same_type.Tie as tie
-use Rattle.signature_token.proofs.same_type.Reads as reads
-use Rattle.signature_token.proofs.same_type.Lts as lts
 
 abbrev Inv-loop : tie.InvT-loop
 Inv-loop a x len b y i₀ i = (i ≤ len) × Alike a x b y i

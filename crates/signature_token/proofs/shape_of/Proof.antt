@@ -1,3 +1,4 @@
+-- The shape of each command is that of `shapeOf`, a leaf for every byte that opens nothing more.
 use borrow.Author.Needs.{needs}
 use mathlib.Core.Path.{_≡_, refl}
 use Prim.Native.Nat.{ℕ, zero, suc}
@@ -5,8 +6,6 @@ use Rattle.signature_token.specs.Token.{shapeOf}
 use Rattle.signature_token.specs.declared.Shape.the-variants.{Leaf}
 use Rattle.signature_token.proofs.shape_of.Statement.{statement}
 use Rattle.signature_token.proofs.shape_of.Tie as tie
-use Rattle.signature_token.proofs.shape_of.Reads as reads
-use Rattle.signature_token.proofs.shape_of.Lts as lts
 
 -- no other byte opens more than a leaf
 other : (b : ℕ) → (b ≡ 7 → ⊥) → (b ≡ 8 → ⊥) → (b ≡ 9 → ⊥) → (b ≡ 10 → ⊥) → (b ≡ 11 → ⊥) → (b ≡ 12 → ⊥) → Leaf ≡ shapeOf b

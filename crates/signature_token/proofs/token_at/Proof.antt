@@ -1,15 +1,10 @@
+-- The type that stands there is taken apart as `TokenAt` says, one law for each shape of its command.
 use native.Mathlib.Omega.{arith}
-use mathlib.Core.Path.{_≡_, sym, ap, _∙_}
+use mathlib.Core.Path.{sym, _∙_}
 use Rattle.signature_token.specs.Token.{token-by, room-by, at-some}
 use borrow.Author.Needs.{needs}
 use Rattle.signature_token.proofs.token_at.Statement.{statement}
 use Rattle.signature_token.proofs.token_at.Tie as tie
-use Rattle.signature_token.proofs.token_at.Reads as reads
-use Rattle.signature_token.proofs.token_at.Lts as lts
-use Rattle.signature_token.proofs.shape_of.Reads as shape-of-reads
-use Rattle.signature_token.proofs.u16_at.Reads as u16-at-reads
-use Rattle.signature_token.proofs.wide.Reads as wide-reads
-use Rattle.signature_token.proofs.widest.Reads as widest-reads
 
 enum-told : tie.Need-enum-told
 enum-told c = search needs

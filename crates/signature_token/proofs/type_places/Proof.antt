@@ -1,12 +1,10 @@
-use Prim.Native.Nat.{_+_, _-_, _≤_}
+-- The places of the types that stand there are written in order, and the answer is where the last one ends.
+use Prim.Native.Nat.{_-_}
 use native.Mathlib.Omega.{arith}
 use Rattle.signature_token.specs.Token.{at-some}
 use Rattle.signature_token.specs.Lists.{Placing, placing-start, placing-next, placing-done, next-type}
 use Rattle.signature_token.proofs.type_places.Statement.{statement}
 use Rattle.signature_token.proofs.type_places.Tie as tie
-use Rattle.signature_token.proofs.type_places.Reads as reads
-use Rattle.signature_token.proofs.type_places.Lts as lts
-use Rattle.signature_token.proofs.end_of_type.Reads as end-of-type-reads
 
 abbrev Inv-loop : tie.InvT-loop
 Inv-loop s at n out₀ p₀ i₀ out p i = Placing s at n out₀ out p i
