@@ -1,18 +1,23 @@
 -- What a step asks of an operand's kind: whether it is an integer, and what it refers to.
 use mathlib.Core.Path.{_≡_, refl, sym, ap, _∙_}
-use mathlib.Core.Bool.{Bool, false, _&&_}
-use mathlib.Core.List.{List}
-use Prim.Native.Nat.{ℕ}
-use lib.Dec.{leb, ltb}
-use Rattle.definitions.specs.SignatureToken.{SignatureToken, Bool′, U8, U64, U128, Address, Signer, Vector as VectorOf, Struct as StructOf, StructInstantiation as InstantiationOf, Reference as ReferenceOf, MutableReference as MutableReferenceOf, TypeParameter as ParameterOf, outer, isInteger}
-use Rattle.definitions.specs.Places.{TypeAt}
+use mathlib.Core.Bool.{Bool, true, false, _&&_}
+use mathlib.Core.List.{List, [], _∷_}
+use Prim.Native.Nat.{ℕ, _+_}
+use native.Mathlib.Decide.{ℕ-discrete}
+use borrow.Author.Tests.{eq-eqb, ne-eqb}
+use lib.Dec.{leb, ltb, eqb}
+use Rattle.definitions.specs.SignatureToken.{SignatureToken, Bool′, U8, U64, U128, Address, Signer, Vector as VectorOf, Struct as StructOf, StructInstantiation as InstantiationOf, Reference as ReferenceOf, MutableReference as MutableReferenceOf, TypeParameter as ParameterOf, encode, same, outer, isInteger}
+use Rattle.definitions.specs.Places.{At, TypeAt}
 use Rattle.signature_token.specs.declared.Wrapper.{Wrapper}
 use Rattle.signature_token.specs.declared.Wrapper.the-variants as wrapper
 use Rattle.signature_token.specs.declared.Token.{Token}
 use Rattle.signature_token.specs.declared.Token.the-variants.{Leaf, Wrapped, Struct, StructInstantiation, TypeParameter}
 use Rattle.signature_token.specs.declared.Referent.{Referent}
 use Rattle.signature_token.specs.declared.Referent.the-variants.{Reference, MutableReference, Value}
-use Rattle.signature_token.specs.Token.{tokenOf, TokenAt}
+use Rattle.signature_token.specs.Token.{tokenOf, TokenAt, wrappedBy}
+use Rattle.theorems.specs.Bytes.{equal-bytes}
+use Rattle.signature_token.specs.TokenLaws.{IsLeaf, is-bool, is-u8, is-u64, is-u128, is-address, is-signer, leaf-at}
+use Rattle.signature_token.specs.Same.{same-yes, same-no}
 
 -- ── the words ──
 
@@ -36,7 +41,30 @@ ReferentAt s at r = (p : TypeAt s at) → r ≡ referentOf (tokenOf (p .type) at
 abbrev pub IntegerAt : List ℕ → ℕ → Bool → Type 0
 IntegerAt s at r = (p : TypeAt s at) → r ≡ isInteger (p .type)
 
+-- r says whether the type at `at` is the leaf of that command
+abbrev pub LeafAt : List ℕ → ℕ → ℕ → Bool → Type 0
+LeafAt s at command r = (p : TypeAt s at) (u : SignatureToken) → IsLeaf u command → r ≡ same (p .type) u
+
 -- ── the laws ──
+
+-- a leaf taken apart shows its command, which is its own
+leaf-token : {u : SignatureToken} {b : ℕ} (at : ℕ) → IsLeaf u b → tokenOf u at ≡ Leaf b
+unfolding tokenOf
+leaf-token at is-bool = refl
+leaf-token at is-u8 = refl
+leaf-token at is-u64 = refl
+leaf-token at is-u128 = refl
+leaf-token at is-address = refl
+leaf-token at is-signer = refl
+
+leaf-bytes : {u : SignatureToken} {b : ℕ} → IsLeaf u b → encode u ≡ b ∷ []
+unfolding encode
+leaf-bytes is-bool = refl
+leaf-bytes is-u8 = refl
+leaf-bytes is-u64 = refl
+leaf-bytes is-u128 = refl
+leaf-bytes is-address = refl
+leaf-bytes is-signer = refl
 
 -- whether a type taken apart is an integer: its command is 02, 03 or 04
 abbrev pub integerOf : Token → Bool
@@ -67,3 +95,15 @@ module _ {s : List ℕ} {at : ℕ} {r : Token} (w : TokenAt s at r) where
 
   pub referent-by : {q : Referent} → q ≡ referentOf r → ReferentAt s at q
   referent-by e p = e ∙ ap referentOf (w p)
+
+  pub leaf-not : {command : ℕ} → (r ≡ Leaf command → ⊥) → LeafAt s at command false
+  leaf-not f p u l = sym (same-no (p .type) u (λ e. f (w p ∙ ap (λ (t : SignatureToken). tokenOf t at) e ∙ leaf-token at l)))
+
+  -- two leaves of one command are one type
+  pub leaf-test : {b command : ℕ} → r ≡ Leaf b → LeafAt s at command (eqb b command)
+  leaf-test {b} {command} e = go (ℕ-discrete b command)
+    where
+      go : Dec (b ≡ command) → LeafAt s at command (eqb b command)
+      go (yes k) p u l =
+          eq-eqb b command k ∙ sym (same-yes (p .type) u (equal-bytes (p .type) u .1 (leaf-bytes (leaf-at w p e) ∙ ap (λ (n : ℕ). n ∷ []) k ∙ sym (leaf-bytes l))))
+      go (no k) p u l = ne-eqb b command k ∙ leaf-not (λ f. k (cc)) p u l

@@ -10,7 +10,7 @@ ghost use Rattle.definitions.specs.Places.{TypeAt, TypesAt, EndOfType, EndOfTyp
 ghost use Rattle.signature_token.specs.Token.{shapeOf, TokenAt};
 ghost use Rattle.signature_token.specs.Lists.{PlacesAt};
 ghost use Rattle.signature_token.specs.Same.{Spans, SameAt};
-ghost use Rattle.signature_token.specs.Kinds.{ReferentAt, IntegerAt};
+ghost use Rattle.signature_token.specs.Kinds.{ReferentAt, IntegerAt, LeafAt};
 ghost use Rattle.signature_token.specs.Nesting.{NestingAt, NestingsAt};
 
 // What a type's command opens.
@@ -198,6 +198,20 @@ pub fn is_integer(s: &[u8], at: usize) -> bool
 {
     match token_at(s, at) {
         Token::Leaf(command) => integer_command(command),
+        Token::Wrapped(_, _) => false,
+        Token::Struct(_) => false,
+        Token::StructInstantiation(_, _, _) => false,
+        Token::TypeParameter(_) => false,
+    }
+}
+
+// Whether the type at `at` is the leaf of that command.
+pub fn is_leaf(s: &[u8], at: usize, command: u8) -> bool
+    requires { ⌜ TypeAt (now s) at ⌝ }
+    ensures { λ r. ⌜ LeafAt (now (s .entry)) at command r ⌝ }
+{
+    match token_at(s, at) {
+        Token::Leaf(found) => found == command,
         Token::Wrapped(_, _) => false,
         Token::Struct(_) => false,
         Token::StructInstantiation(_, _, _) => false,
