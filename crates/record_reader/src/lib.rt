@@ -318,7 +318,7 @@ const OPERAND_WIDTHS: [usize; 71] = [
     2, // VecSwap
 ];
 
-fn operand_width(opcode: usize) -> usize
+pub fn operand_width(opcode: usize) -> usize
     requires { ⌜ opcode < 71 ⌝ }
     ensures { λ r. ⌜ r ≡ operandWidth opcode ⌝ }
 {

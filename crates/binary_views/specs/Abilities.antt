@@ -1,0 +1,180 @@
+-- The abilities of a type over its bytes: the words of the contracts, and a law for each way that the walk goes.
+use mathlib.Core.Path.{_≡_, refl, sym, ap, _∙_}
+use mathlib.Core.Bool.{false, cond}
+use mathlib.Core.List.{List, [], _∷_, map}
+use Prim.Native.Nat.{ℕ, _+_, _-_, _≤_, _<_}
+use native.Mathlib.Omega.{arith}
+use lib.Dec.{eqb}
+use lib.ListN.{length, take, drop, getD}
+use Rattle.status.specs.declared.StatusCode.{StatusCode}
+use Rattle.status.specs.declared.StatusCode.the-variants.{«OUT_OF_TABLE»}
+use Rattle.definitions.specs.Result.{Result, ok, err, _>>?_, at}
+use Rattle.definitions.specs.AbilitySet.{PRIMITIVES, SIGNER, VECTOR, REFERENCES, polymorphicAbilities}
+use Rattle.definitions.specs.SignatureToken.{SignatureToken}
+use Rattle.definitions.specs.CompiledUnit.{StructHandle}
+use Rattle.definitions.specs.Abilities.{isPhantomOf, abilitiesIn, abilitiesOfAll}
+use Rattle.definitions.specs.Places.{TypeAt, TypesAt}
+use Rattle.file_format.specs.AbilitySet.{setOf, isPhantomByte, abilitiesAnswer}
+use Rattle.file_format.specs.declared.StructHandleIndex.{StructHandleIndex}
+use Rattle.file_format.specs.declared.Abilities.{Abilities}
+use Rattle.file_format.specs.declared.Abilities.the-variants.{Found, Refused}
+use Rattle.signature_token.specs.declared.Token.{Token}
+use Rattle.signature_token.specs.declared.Token.the-variants.{Leaf, Wrapped, Struct, StructInstantiation, TypeParameter}
+use Rattle.signature_token.specs.declared.Wrapper.the-variants as wrapper
+use Rattle.signature_token.specs.Token.{TokenAt}
+use Rattle.signature_token.specs.TokenLaws.{IsLeaf, is-bool, is-u8, is-u64, is-u128, is-address, is-signer, leaf-at, wrapped-at, struct-at, instantiation-at, parameter-at}
+use Rattle.binary_views.specs.declared.Place.the-variants.{At, OutOfTable}
+use Rattle.binary_views.specs.declared.Gathered.{Gathered}
+use Rattle.binary_views.specs.declared.Gathered.the-variants as gathered
+use Rattle.binary_views.specs.Tables.{PlaceAt, element-within, element-past, entry-at, entry-past}
+use Rattle.binary_views.specs.Handles.{HandleAt, HandlesAt, handle-bytes}
+
+-- ── the words ──
+
+-- an answer as a result of the definitions
+abbrev pub resultOf : Abilities → Result ℕ
+resultOf (Found set) = ok (set .0)
+resultOf (Refused status) = err status
+
+abbrev pub gatheredOf : Gathered → List ℕ → Result (List ℕ)
+gatheredOf gathered.All sets = ok sets
+gatheredOf (gathered.Refused status) sets = err status
+
+-- by a leaf's command, 6 being signer
+abbrev pub leafSet : ℕ → ℕ
+leafSet command = cond (eqb command 6) SIGNER PRIMITIVES
+
+-- a vector's abilities by its element's
+abbrev pub ofVector : Abilities → Abilities
+ofVector element = abilitiesAnswer (resultOf element >>? λ set. polymorphicAbilities VECTOR (false ∷ []) (set ∷ []))
+
+-- r is the answer for a struct with the i-th handle
+pub record StructAbilitiesAt (unit handles : List ℕ) (i : ℕ) (r : Abilities) : Type 0 where
+  pub answers : (h : HandlesAt unit handles) → r ≡ abilitiesAnswer (at (h .structHandles) i >>? λ sh. ok (sh .abilities))
+
+-- r is the answer for a struct whose handle stands at p, over its arguments' sets
+pub record InstantiatedAt (unit : List ℕ) (p : ℕ) (sets : List ℕ) (r : Abilities) : Type 0 where
+  pub answers : (h : HandleAt unit p) → r ≡ abilitiesAnswer (polymorphicAbilities (h .handle .abilities) (map isPhantomOf (h .handle .typeParameters)) sets)
+
+-- r is the answer for the type at `place`
+pub record AbilitiesAt (ty : List ℕ) (place : ℕ) (unit handles constraints : List ℕ) (r : Abilities) : Type 0 where
+  pub answers : (p : TypeAt ty place) (h : HandlesAt unit handles) → r ≡ abilitiesAnswer (abilitiesIn (h .structHandles) constraints (p .type))
+
+-- r is the answer for the n types at `place`, with their sets at the front of `sets`
+pub record GatheredAt (ty : List ℕ) (place n : ℕ) (unit handles constraints sets : List ℕ) (r : Gathered) : Type 0 where
+  pub room : n ≤ length sets
+  pub answers : (q : TypesAt ty place n) (h : HandlesAt unit handles) → gatheredOf r (take n sets) ≡ abilitiesOfAll (h .structHandles) constraints (q .types)
+
+-- ── struct handles ──
+
+-- a handle that was looked up stands there
+pub handle-found : {unit handles : List ℕ} {i p : ℕ} → HandlesAt unit handles → PlaceAt handles i (At p) → HandleAt unit p
+handle-found h e = let k = entry-at (h .stand) e in record { handle = k .item; stands = k .stands }
+
+module _ {unit handles : List ℕ} {i : ℕ} where
+  pub struct-found : {p : ℕ} → PlaceAt handles i (At p) → StructAbilitiesAt unit handles i (Found (setOf (getD unit (p + 1) 0)))
+  unfolding _>>?_
+  struct-found e = record { answers = λ h. let k = entry-at (h .stand) e in rw (k .is, handle-bytes (k .stands) .abilities) }
+
+  pub struct-past : PlaceAt handles i OutOfTable → StructAbilitiesAt unit handles i (Refused «OUT_OF_TABLE»)
+  unfolding _>>?_
+  struct-past e = record { answers = λ h. rw (entry-past (h .stand) e) }
+
+-- the handle's parameters are the n bytes that follow its count
+pub instantiated-at :
+    {unit : List ℕ} {p : ℕ} {sets : List ℕ} {r : Abilities} (n : ℕ) → n ≡ getD unit (p + 2) 0 →
+    r ≡ abilitiesAnswer (polymorphicAbilities (getD unit (p + 1) 0) (map isPhantomByte (take (p + 3 + n - (p + 3)) (drop (p + 3) unit))) sets) →
+    InstantiatedAt unit p sets r
+instantiated-at {p = p} n e k = record {
+  answers = λ h.
+      let b = handle-bytes (h .stands) in
+      let z : p + 3 + n - (p + 3) ≡ length (h .handle .typeParameters) = omega (arith, e, b .counted) in
+      k ∙ rw (b .abilities, z, b .phantoms);
+}
+
+-- ── type parameters ──
+
+module _ (constraints : List ℕ) (i : ℕ) where
+  pub parameter-within : i < length constraints → Found (setOf (getD constraints i 0)) ≡ abilitiesAnswer (at constraints i)
+  unfolding at
+  parameter-within l = rw (element-within constraints i 0 l)
+
+  pub parameter-past : length constraints ≤ i → Refused «OUT_OF_TABLE» ≡ abilitiesAnswer (at constraints i)
+  unfolding at
+  parameter-past l = rw (element-past constraints i l)
+
+-- ── types ──
+
+pub answer-back : (a : Result ℕ) → resultOf (abilitiesAnswer a) ≡ a
+answer-back (ok set) = refl
+answer-back (err status) = refl
+
+leaf-is : (hs : List StructHandle) (constraints : List ℕ) {t : SignatureToken} {b : ℕ} → IsLeaf t b → abilitiesIn hs constraints t ≡ ok (leafSet b)
+unfolding abilitiesIn
+leaf-is hs constraints is-bool = refl
+leaf-is hs constraints is-u8 = refl
+leaf-is hs constraints is-u64 = refl
+leaf-is hs constraints is-u128 = refl
+leaf-is hs constraints is-address = refl
+leaf-is hs constraints is-signer = refl
+
+module _ {ty : List ℕ} {place : ℕ} {unit handles constraints : List ℕ} {token : Token} (w : TokenAt ty place token) where
+  pub leaf-abilities : {b : ℕ} → token ≡ Leaf b → AbilitiesAt ty place unit handles constraints (Found (setOf (leafSet b)))
+  leaf-abilities e = record { answers = λ p h. sym (ap abilitiesAnswer (leaf-is (h .structHandles) constraints (leaf-at w p e))) }
+
+  pub vector-abilities : {x : ℕ} {r : Abilities} → token ≡ Wrapped wrapper.Vector x → AbilitiesAt ty x unit handles constraints r → AbilitiesAt ty place unit handles constraints (ofVector r)
+  unfolding abilitiesIn
+  vector-abilities e f = record {
+    answers = λ p h.
+        let k = wrapped-at w p e in
+        rw (k .is, f .answers (record { type = k .inner; stands = k .stands }) h, answer-back (abilitiesIn (h .structHandles) constraints (k .inner)));
+  }
+
+  pub reference-abilities : {x : ℕ} → token ≡ Wrapped wrapper.Reference x → AbilitiesAt ty place unit handles constraints (Found (setOf REFERENCES))
+  unfolding abilitiesIn
+  reference-abilities e = record { answers = λ p h. rw (wrapped-at w p e .is) }
+
+  pub mutable-reference-abilities : {x : ℕ} → token ≡ Wrapped wrapper.MutableReference x → AbilitiesAt ty place unit handles constraints (Found (setOf REFERENCES))
+  unfolding abilitiesIn
+  mutable-reference-abilities e = record { answers = λ p h. rw (wrapped-at w p e .is) }
+
+  pub struct-abilities : {k : StructHandleIndex} {r : Abilities} → token ≡ Struct k → StructAbilitiesAt unit handles (k .0) r → AbilitiesAt ty place unit handles constraints r
+  unfolding abilitiesIn
+  struct-abilities e f = record { answers = λ p h. rw (struct-at w p e .is) (f .answers h) }
+
+  pub parameter-abilities : {i : ℕ} → token ≡ TypeParameter i → AbilitiesAt ty place unit handles constraints (abilitiesAnswer (at constraints i))
+  unfolding abilitiesIn
+  parameter-abilities e = record { answers = λ p h. rw (parameter-at w p e .is) }
+
+-- ── an instantiated struct ──
+
+-- the arguments' sets have room in an array of 255
+pub arguments-fit :
+    {ty : List ℕ} {place : ℕ} {token : Token} → TokenAt ty place token → {k : StructHandleIndex} {n x : ℕ} → token ≡ StructInstantiation k n x →
+    TypeAt ty place → getD ty (place + 3) 0 < 256 → n ≤ 255
+arguments-fit w e p l = omega (arith, instantiation-at w p e .byte)
+
+module _ {ty : List ℕ} {place : ℕ} {unit handles constraints : List ℕ} {token : Token} (w : TokenAt ty place token) {k : StructHandleIndex} {n x : ℕ} (e : token ≡ StructInstantiation k n x) where
+  pub instantiation-past : PlaceAt handles (k .0) OutOfTable → AbilitiesAt ty place unit handles constraints (Refused «OUT_OF_TABLE»)
+  unfolding abilitiesIn _>>?_
+  instantiation-past f = record { answers = λ p h. rw (instantiation-at w p e .is, entry-past (h .stand) f) }
+
+  module _ {q : ℕ} {sets : List ℕ} (f : PlaceAt handles (k .0) (At q)) where
+    pub argument-refused :
+        {z : StatusCode} → GatheredAt ty x n unit handles constraints sets (gathered.Refused z) → AbilitiesAt ty place unit handles constraints (Refused z)
+    unfolding abilitiesIn _>>?_
+    argument-refused g = record {
+      answers = λ p h.
+          let i = instantiation-at w p e in
+          rw (i .is, entry-at (h .stand) f .is, ← g .answers (record { types = i .types; counted = i .counted; stands = i .stands }) h);
+    }
+
+    pub instantiation-abilities :
+        {r : Abilities} → GatheredAt ty x n unit handles constraints sets gathered.All → InstantiatedAt unit q (take n sets) r → AbilitiesAt ty place unit handles constraints r
+    unfolding abilitiesIn _>>?_
+    instantiation-abilities g j = record {
+      answers = λ p h.
+          let i = instantiation-at w p e in
+          let a = entry-at (h .stand) f in
+          rw (i .is, a .is, ← g .answers (record { types = i .types; counted = i .counted; stands = i .stands }) h) (j .answers (record { handle = a .item; stands = a .stands }));
+    }

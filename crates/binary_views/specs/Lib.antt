@@ -1,0 +1,4 @@
+pub mod Tables
+pub mod Handles
+pub mod Abilities
+pub mod Gathering
