@@ -57,7 +57,7 @@ leaf-token at is-u128 = refl
 leaf-token at is-address = refl
 leaf-token at is-signer = refl
 
-leaf-bytes : {u : SignatureToken} {b : ℕ} → IsLeaf u b → encode u ≡ b ∷ []
+pub leaf-bytes : {u : SignatureToken} {b : ℕ} → IsLeaf u b → encode u ≡ b ∷ []
 unfolding encode
 leaf-bytes is-bool = refl
 leaf-bytes is-u8 = refl
