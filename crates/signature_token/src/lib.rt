@@ -198,7 +198,7 @@ pub fn is_integer(s: &[u8], at: usize) -> bool
 {
     match token_at(s, at) {
         Token::Leaf(command) => integer_command(command),
-        Token::Wrapped(_, _) => false,
+        Token::Wrapped(_, _) => false, // a vector or a reference
         Token::Struct(_) => false,
         Token::StructInstantiation(_, _, _) => false,
         Token::TypeParameter(_) => false,
