@@ -1,17 +1,20 @@
 -- Each record of a unit that was read stands at its place, and each instruction at its own.
 use mathlib.Core.Path.{_≡_, refl, sym, ap, subst, _∙_}
-use mathlib.Core.Bool.{Bool, true, false}
+use mathlib.Core.Bool.{Bool, true, false, _&&_}
 use mathlib.Core.List.{List, [], _∷_}
 use Prim.Native.Nat.{ℕ, zero, suc, _+_, _≤_, _<_}
 use native.Mathlib.Nat.{not-suc-le-zero, le-of-suc-le-suc}
 use native.Mathlib.Omega.{arith}
-use lib.Dec.{leb}
+use lib.Dec.{leb, ltb}
+use borrow.Author.Tests.{leb-true, ltb-true}
 use lib.ListN.{length, getD}
-use Rattle.status.specs.declared.StatusCode.the-variants.{«TOO_LONG»}
+use Rattle.status.specs.declared.StatusCode.{StatusCode}
+use Rattle.status.specs.declared.StatusCode.the-variants.{«TOO_LONG», BLOCK}
+use Rattle.definitions.specs.Result.{ok, at}
 use Rattle.definitions.specs.SignatureToken.{SignatureToken, Signature}
 use Rattle.definitions.specs.Bytecode.{Bytecode}
-use Rattle.definitions.specs.CompiledUnit.{Head, FunctionView}
-use Rattle.definitions.specs.Reading.{Read, read, stop, Reader, next, _>>=_, _>>_, give, fail, here, byte, u16, many, Placed, placed}
+use Rattle.definitions.specs.CompiledUnit.{Head, FunctionView, Block}
+use Rattle.definitions.specs.Reading.{Read, read, stop, Reader, next, _>>=_, _>>_, give, fail, here, need, byte, u16, many, Placed, placed}
 use Rattle.definitions.specs.Commands.{Commands, commandsOf}
 use Rattle.definitions.specs.Reader.{Decoded, items, table, due, functionView, instruction, code, end, blocksWithin, unitUnder, unitAfterHead, headCommand, HeadCommand, opened, unopened, unit, readUnit, type, types, structHandle, functionHandle, functionInstantiation, structDefinition, structDefInstantiation, fieldHandle, fieldInstantiation, block}
 use Rattle.definitions.specs.Places.{TableAt}
@@ -26,6 +29,10 @@ use Rattle.unit.specs.Stand.{table-stands, due-got}
 pub record CodeStands (commands : Commands) (s : List ℕ) (code : List (Placed Bytecode)) : Type 0 where
   pub stands : (i : ℕ) → i < length code → (a : Placed Bytecode) → (e : ℕ) × (instruction commands s (getD code i a .start) ≡ read (getD code i a .item) e)
 
+-- each block's first instruction is not past its last, and its last is one of the n
+pub record BlocksOrdered (n : ℕ) (blocks : List Block) : Type 0 where
+  pub ordered : (i : ℕ) (b : Block) → at blocks i ≡ ok b → (b .first ≤ b .last) × (b .last < n)
+
 pub record UnitStands (s : List ℕ) (d : Decoded) : Type 0 where
   pub structHandles : TableAt structHandle s (starts (d .structHandles)) (items (d .structHandles))
   pub signatures : TableAt (types (commandsOf (d .head))) s (starts (d .signatures)) (items (d .signatures))
@@ -39,6 +46,7 @@ pub record UnitStands (s : List ℕ) (d : Decoded) : Type 0 where
   pub function : (e : ℕ) × (functionView (items (d .signatures)) s (d .function .start + 1) ≡ read (d .function .item) e)
   pub blocks : TableAt block s (starts (d .blocks)) (items (d .blocks))
   pub code : CodeStands (commandsOf (d .head)) s (d .code)
+  pub ordered : BlocksOrdered (length (d .code)) (items (d .blocks))
 
 -- ── code ──
 
@@ -118,18 +126,43 @@ module _ (commands : Commands) (s : List ℕ) where
 -- ── the unit ──
 
 -- two readers in turn, of which the first keeps nothing
-then-parts : {A B : Type 0} (m : Reader A) (n : Reader B) (s : List ℕ) (at : ℕ) {b : B} {e : ℕ} → (m >> n) s at ≡ read b e → Parts m (λ _. n) s at b e
+pub then-parts : {A B : Type 0} (m : Reader A) (n : Reader B) (s : List ℕ) (at : ℕ) {b : B} {e : ℕ} → (m >> n) s at ≡ read b e → Parts m (λ _. n) s at b e
 unfolding _>>_ _>>=_
 then-parts m n s at h = parts m (λ _. n) s at h
 
-here-is : (s : List ℕ) (at : ℕ) {p e : ℕ} → here s at ≡ read p e → (at ≡ p) × (at ≡ e)
+pub here-is : (s : List ℕ) (at : ℕ) {p e : ℕ} → here s at ≡ read p e → (at ≡ p) × (at ≡ e)
 unfolding here
 here-is s at h = (cc, cc)
+
+-- a test that held
+pub needed : (t : Bool) (status : StatusCode) (s : List ℕ) (p at : ℕ) {u : Unit {0}} {e : ℕ} → need t status p s at ≡ read u e → t ≡ true
+unfolding need
+needed true status s p at h = refl
+needed false status s p at h = let z : _≡_ {A = ℕ} 0 1 = cc in absurd (omega arith)
+
+both : (a b : Bool) → (a && b) ≡ true → (a ≡ true) × (b ≡ true)
+both true b h = (refl, h)
+both false b h = let z : _≡_ {A = ℕ} 0 1 = cc in absurd (omega arith)
+
+blocks-ordered : (n : ℕ) (l : List (Placed Block)) (s : List ℕ) (p : ℕ) {u : Unit {0}} {e : ℕ} → blocksWithin n l s p ≡ read u e → BlocksOrdered n (items l)
+unfolding blocksWithin at items
+blocks-ordered n [] s p h = record { ordered = λ i b k. let z : _≡_ {A = ℕ} 0 1 = cc in absurd (omega arith) }
+blocks-ordered n (x ∷ l) s p h =
+    let k = then-parts (need (leb (x .item .first) (x .item .last) && ltb (x .item .last) n) BLOCK (x .start)) (blocksWithin n l) s p h in
+    let (f, g) = both (leb (x .item .first) (x .item .last)) (ltb (x .item .last) n) (needed _ BLOCK s (x .start) p (k .first)) in
+    record { ordered = go (blocks-ordered n l s (k .middle) (k .second)) (leb-true _ _ f) (ltb-true _ _ g) }
+  where
+    go :
+        BlocksOrdered n (items l) → x .item .first ≤ x .item .last → x .item .last < n → (i : ℕ) (b : Block) → at (x .item ∷ items l) i ≡ ok b →
+        (b .first ≤ b .last) × (b .last < n)
+    go rest f g zero b q = let y : x .item ≡ b = cc in rw (← y) (f, g)
+    go rest f g (suc i) b q = rest .ordered i b q
 
 -- blocks and code stand
 pub record ListingStands (commands : Commands) (s : List ℕ) (l : UnitListing) : Type 0 where
   pub blocks : TableAt block s (starts (l .blocks)) (items (l .blocks))
   pub code : CodeStands commands s (l .code)
+  pub ordered : BlocksOrdered (length (l .code)) (items (l .blocks))
 
 listing-stands : (commands : Commands) (s : List ℕ) (at : ℕ) (l : UnitListing) (e : ℕ) → unitListing commands s at ≡ read l e → ListingStands commands s l
 unfolding unitListing
@@ -141,7 +174,7 @@ listing-stands commands s at l e h =
     let f = then-parts (blocksWithin (length (c .value)) (a .value)) _ s (d .middle) (d .second) in
     let z = made s (f .second) .0 in
     subst (λ (l : UnitListing). ListingStands commands s l) z
-    (record { blocks = stands commands s 0x1A block _ (a .first); code = code-stands commands s _ _ _ (c .first) })
+    (record { blocks = stands commands s 0x1A block _ (a .first); code = code-stands commands s _ _ _ (c .first); ordered = blocks-ordered _ _ s _ (f .first) })
 
 module _ (head : Head) (s : List ℕ) where
   in-parts-stands : (d : Decoded) (e : ℕ) → unitInParts head s 1 ≡ read d e → UnitStands s d
@@ -171,6 +204,7 @@ module _ (head : Head) (s : List ℕ) where
         function = (f .middle, ap (functionView (items (a .value .signatures)) s) (sym m) ∙ f .first);
         blocks = k .blocks;
         code = k .code;
+        ordered = k .ordered;
       })
 
   under-stands : (d : Decoded) (e : ℕ) → unitUnder head s 1 ≡ read d e → UnitStands s d

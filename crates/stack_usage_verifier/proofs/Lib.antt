@@ -1,0 +1,4 @@
+pub mod Table
+pub mod Heights
+pub mod Looked
+pub mod Blocks

@@ -1,0 +1,68 @@
+-- The rule of the table of effects. One test, computed over the whole table with the unit and the operands left open, is carried to each
+-- entry: `every` tests a list, and `at` reads the test off at a place.
+use mathlib.Core.Path.{_≡_, refl, subst, sym, _∙_, ap}
+use mathlib.Core.Bool.{Bool, true, false, _&&_, _||_}
+use mathlib.Core.List.{List, [], _∷_}
+use Prim.Native.Nat.{ℕ, zero, suc, _+_, _<_}
+use native.Mathlib.Nat.{add-zero, zero-add, add-suc, suc-add, le-of-suc-le-suc, not-suc-le-zero}
+use native.Mathlib.Omega.{arith}
+use lib.Dec.{T, eqb, eqb→eq}
+use lib.ListN.{length, getD}
+use Rattle.definitions.specs.Result.{Result, ok, err}
+use Rattle.definitions.specs.CompiledUnit.{CompiledUnit}
+use Rattle.definitions.specs.Commands.{oneOf}
+use Rattle.definitions.specs.StackUsage as defs
+use Rattle.stack_usage_verifier.specs.declared.Effect.{Effect}
+use Rattle.record_views.specs.Records.{instructionOf}
+use Rattle.stack_usage_verifier.specs.Effects.{effectOf, looksUp, EffectTable}
+
+and-left : (a b : Bool) → T (a && b) → T a
+and-left true b t = tt
+and-left false b t = t
+
+and-right : (a b : Bool) → T (a && b) → T b
+and-right true b t = t
+and-right false b t = absurd t
+
+module _ {A : Type 0} (f : ℕ → A → Bool) where
+  -- the test f passes at each entry of the list and its place, counted from i
+  abbrev pub every : ℕ → List A → Bool
+  every i [] = true
+  every i (x ∷ xs) = f i x && every (suc i) xs
+
+module _ {A : Type 0} (d : A) (f : ℕ → A → Bool) where
+  from : (xs : List A) (i : ℕ) → T (every f i xs) → (k : ℕ) → k < length xs → T (f (i + k) (getD xs k d))
+  from [] i t k h = absurd (not-suc-le-zero h)
+  from (x ∷ xs) i t zero h = rw add-zero (and-left (f i x) (every f (suc i) xs) t)
+  from (x ∷ xs) i t (suc k) h = rw (add-suc, ← suc-add) (from xs (suc i) (and-right (f i x) (every f (suc i) xs) t) k (le-of-suc-le-suc h))
+
+  at : (xs : List A) → T (every f 0 xs) → (k : ℕ) → k < length xs → T (f k (getD xs k d))
+  at xs t k h = rw zero-add at (from xs 0 t k h)
+
+-- ── the test ──
+
+abbrev sameEffect : Result defs.Effect → Effect → Bool
+sameEffect (ok e) p = eqb (e .pops) (p .0) && eqb (e .pushes) (p .1)
+sameEffect (err status) p = false
+
+same-effect : (r : Result defs.Effect) (p : Effect) → T (sameEffect r p) → r ≡ ok (effectOf p)
+same-effect (ok e) p t =
+    let pops = eqb→eq (e .pops) (p .0) (and-left (eqb (e .pops) (p .0)) (eqb (e .pushes) (p .1)) t) in
+    let pushes = eqb→eq (e .pushes) (p .1) (and-right (eqb (e .pops) (p .0)) (eqb (e .pushes) (p .1)) t) in
+    λ i. ok (record { pops = pops i; pushes = pushes i })
+same-effect (err status) p t = absurd t
+
+-- an entry is what the definition says of the opcode at its place, or the opcode looks its effect up
+unfoldable pub agrees : CompiledUnit → ℕ → ℕ → ℕ → Effect → Bool
+agrees u x n opcode p = looksUp opcode || sameEffect (defs.instructionEffect u (instructionOf opcode x n)) p
+
+-- 71 pairs that pass the test hold the effect of each opcode
+pub tested : (table : List Effect) → length table ≡ 71 → ((u : CompiledUnit) (x n : ℕ) → T (every (agrees u x n) 0 table)) → EffectTable table
+unfolding agrees
+tested table l t = record {
+  entry = λ opcode h d. record { agrees = λ e u x n. go (looksUp opcode) e _ _ (at d (agrees u x n) table (t u x n) opcode (omega arith)) };
+}
+  where
+    go : (looks : Bool) → looks ≡ false → (r : Result defs.Effect) (p : Effect) → T (looks || sameEffect r p) → r ≡ ok (effectOf p)
+    go true e r p t = let z : _≡_ {A = ℕ} 0 1 = cc in absurd (omega arith)
+    go false e r p t = same-effect r p t

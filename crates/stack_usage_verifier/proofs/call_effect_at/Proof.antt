@@ -1,0 +1,16 @@
+-- A handle that was found, or its refusal.
+use Rattle.stack_usage_verifier.proofs.Looked.{refused, found, handle-told}
+use borrow.Author.Needs.{needs}
+use Rattle.stack_usage_verifier.proofs.call_effect_at.Statement.{statement}
+use Rattle.stack_usage_verifier.proofs.call_effect_at.Tie as tie
+
+pub call-effect-at-spec : {M : Type 1} → statement M
+call-effect-at-spec =
+    tie.close
+    (tie.spec
+    (λ c κs. search needs)
+    (λ c. search needs)
+    (λ c. search needs)
+    (λ c κs. search needs)
+    (λ c p. refused _ (handle-told _ (c .before .before .before .function-handle-at .ensures p) (c .before .status .given .1)))
+    (λ c p. found _ (handle-told _ (c .before .before .before .before .function-handle-at .ensures p) (c .before .before .handle .given .1)) (c .call-effect .ensures p)))

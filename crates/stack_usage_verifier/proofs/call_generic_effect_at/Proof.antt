@@ -1,0 +1,16 @@
+-- An instantiation that was found, or its refusal.
+use Rattle.stack_usage_verifier.proofs.Looked.{refused, found, function-told}
+use borrow.Author.Needs.{needs}
+use Rattle.stack_usage_verifier.proofs.call_generic_effect_at.Statement.{statement}
+use Rattle.stack_usage_verifier.proofs.call_generic_effect_at.Tie as tie
+
+pub call-generic-effect-at-spec : {M : Type 1} → statement M
+call-generic-effect-at-spec =
+    tie.close
+    (tie.spec
+    (λ c κs. search needs)
+    (λ c. search needs)
+    (λ c. search needs)
+    (λ c κs. search needs)
+    (λ c p. refused _ (function-told _ (c .before .before .before .function-instantiation-at .ensures p) (c .before .status .given .1)))
+    (λ c p. found _ (function-told _ (c .before .before .before .before .function-instantiation-at .ensures p) (c .before .before .inst .given .1)) (c .call-effect-at .ensures p)))

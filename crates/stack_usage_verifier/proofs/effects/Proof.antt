@@ -1,0 +1,16 @@
+-- The test passes at the whole table, whatever the unit and the operands are.
+use mathlib.Core.Path.{refl}
+use Rattle.definitions.specs.Commands.{oneOf}
+use Rattle.definitions.specs.StackUsage.{instructionEffect}
+use Rattle.record_views.specs.Records.{instructionOf}
+use Rattle.stack_usage_verifier.specs.Effects.{looksUp}
+use Rattle.stack_usage_verifier.proofs.Table.{agrees, tested}
+use Rattle.stack_usage_verifier.proofs.effects.Statement.{statement}
+use Rattle.stack_usage_verifier.proofs.effects.Tie as tie
+
+returns : tie.Need-returns
+unfolding agrees looksUp oneOf instructionEffect instructionOf
+returns c = tested _ refl (λ u x n. tt)
+
+pub effects-spec : {M : Type 1} → statement M
+effects-spec = tie.close (tie.spec returns)

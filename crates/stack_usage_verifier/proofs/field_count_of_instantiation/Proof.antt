@@ -1,0 +1,25 @@
+-- An instantiation that was found, or its refusal.
+use Rattle.definitions.specs.StackUsage.{fieldCountOfInstantiation}
+use Rattle.stack_usage_verifier.proofs.Looked.{refused, found, struct-told}
+use borrow.Author.Needs.{needs}
+use Rattle.stack_usage_verifier.proofs.field_count_of_instantiation.Statement.{statement}
+use Rattle.stack_usage_verifier.proofs.field_count_of_instantiation.Tie as tie
+
+returns : tie.Need-returns
+unfolding fieldCountOfInstantiation
+returns c p = refused _ (struct-told _ (c .before .before .before .struct-instantiation-at .ensures p) (c .before .status .given .1))
+
+returns-2 : tie.Need-returns-2
+unfolding fieldCountOfInstantiation
+returns-2 c p = found _ (struct-told _ (c .before .before .before .before .struct-instantiation-at .ensures p) (c .before .before .inst .given .1)) (c .field-count .ensures p)
+
+pub field-count-of-instantiation-spec : {M : Type 1} → statement M
+field-count-of-instantiation-spec =
+    tie.close
+    (tie.spec
+    (λ c κs. search needs)
+    (λ c. search needs)
+    (λ c. search needs)
+    (λ c κs. search needs)
+    returns
+    returns-2)
