@@ -62,7 +62,7 @@ segments d =
     ∷ starts (d .structInstantiations) ∷ starts (d .fieldHandles) ∷ starts (d .fieldInstantiations) ∷ starts (d .constants) ∷ starts (d .blocks)
     ∷ starts (d .code) ∷ []
 
-starts-joined : (d : Decoded) → startsOf d ≡ joined (segments d)
+pub starts-joined : (d : Decoded) → startsOf d ≡ joined (segments d)
 unfolding startsOf inTables inFour placesOf inListing joined
 starts-joined d = simp (append-assoc, append-nil)
 

@@ -8,6 +8,9 @@ use Rattle.status.specs.declared.StatusCode.{StatusCode}
 use Rattle.definitions.specs.Result.{Result, ok, err, at}
 use Rattle.definitions.specs.SignatureToken.{SignatureToken, Signature, arguments, encode, encodeAll}
 use Rattle.definitions.specs.CompiledUnit as defs
+use Rattle.definitions.specs.Abilities as defs-abilities
+use Rattle.file_format.specs.AbilitySet.{abilitiesAnswer}
+use Rattle.file_format.specs.declared.Abilities.{Abilities}
 use Rattle.definitions.specs.Reader.{Decoded, compiledUnit}
 use Rattle.definitions.specs.Places.{At, Standing}
 use Rattle.record_views.specs.Records.{ListIs, DefIs, instructionOf}
@@ -100,6 +103,11 @@ fieldHandleAnswer (err w) = FieldHandleResult.Refused w
 abbrev pub fieldInstantiationAnswer : Result defs.FieldInstantiation → FieldInstantiationResult
 fieldInstantiationAnswer (ok h) = FieldInstantiationResult.Found (record { handle = record { 0 = h .handle }; «type_parameters» = record { 0 = h .typeParameters } })
 fieldInstantiationAnswer (err w) = FieldInstantiationResult.Refused w
+
+-- ── abilities ──
+
+pub record AbilitiesIs (u : defs.CompiledUnit) (t : SignatureToken) (r : Abilities) : Type 0 where
+  pub is : r ≡ abilitiesAnswer (defs-abilities.abilities u t)
 
 -- ── what an answer tells ──
 

@@ -1,3 +1,4 @@
 pub mod Tables
 pub mod Answers
 pub mod Lookups
+pub mod Function

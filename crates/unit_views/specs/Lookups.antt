@@ -326,7 +326,7 @@ unfolding need
 need-stays true s p at h = cc
 need-stays false s p at h = let z : _≡_ {A = ℕ} 0 1 = cc in absurd (omega arith)
 
-signature-read : (l : List Signature) (s : List ℕ) (p : ℕ) {ts : Signature} {e : ℕ} → signatureOf l s p ≡ read ts e → SignatureRead s l p ts e
+pub signature-read : (l : List Signature) (s : List ℕ) (p : ℕ) {ts : Signature} {e : ℕ} → signatureOf l s p ≡ read ts e → SignatureRead s l p ts e
 unfolding signatureOf
 signature-read l s p {ts} {e} h =
     let a = parts here _ s p h in

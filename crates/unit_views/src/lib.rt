@@ -1,5 +1,6 @@
 // Look-ups in a unit that was read: `s` are its bytes, `index` and `view` say where its records and instructions stand. Beside
 // binary_views.rs: a table that a script lacks is INVALID_OPERATION_IN_SCRIPT, an index past a table OUT_OF_TABLE.
+use file_format::Abilities;
 use file_format::ConstantPoolIndex;
 use file_format::FieldHandleIndex;
 use file_format::FieldInstantiationIndex;
@@ -20,10 +21,11 @@ ghost use mathlib.Core.Path.{_≡_};
 ghost use Prim.Native.Nat.{_+_, _<_};
 ghost use lib.ListN.{getD};
 ghost use Rattle.definitions.specs.CompiledUnit as defs;
+ghost use Rattle.definitions.specs.Places.{TypeAt};
 ghost use Rattle.definitions.specs.Reader.{compiledUnit};
 ghost use Rattle.unit.specs.Views.{UnitRead};
 ghost use Rattle.unit_views.specs.Tables.{Fits, PairsFit, PairIs};
-ghost use Rattle.unit_views.specs.Answers.{InstructionAt, BlockAt, Returns, LocalPlaces, SignatureIs, TypeIs, StructDefIs, functionHandleAnswer, functionInstantiationAnswer, structInstantiationAnswer, fieldHandleAnswer, fieldInstantiationAnswer};
+ghost use Rattle.unit_views.specs.Answers.{InstructionAt, BlockAt, Returns, LocalPlaces, SignatureIs, TypeIs, StructDefIs, AbilitiesIs, functionHandleAnswer, functionInstantiationAnswer, structInstantiationAnswer, fieldHandleAnswer, fieldInstantiationAnswer};
 
 // The two numbers of a record.
 pub enum PairAt {
@@ -346,4 +348,16 @@ pub fn field_instantiation_at(
             PairAt::OutOfTable => FieldInstantiationResult::Refused(StatusCode::OUT_OF_TABLE),
         },
     }
+}
+
+// The abilities of the type at `at` of ty, which is the unit or the area.
+pub fn abilities(ty: &[u8], at: usize, s: &[u8], index: &[u16], view: View) -> Abilities
+    requires { ⌜ TypeAt (now ty) at ⌝ }
+    requires { ⌜ UnitRead (now s) (now index) view ⌝ }
+    ensures { λ r. ⌜ ((p : UnitRead (now (s .entry)) (now (index .entry)) view) (q : TypeAt (now (ty .entry)) at) → AbilitiesIs (compiledUnit (p .decoded)) (q .type) r) ⌝ }
+{
+    let handles = widest(view.struct_handles.count);
+    let from = view.function + 8;
+    let n = wide(s[view.function + 7]);
+    binary_views::abilities(ty, at, s, &index[..handles], &s[from..from + n])
 }

@@ -1,0 +1,125 @@
+-- What a look-up of abilities takes from a unit that was read: the places of its struct handles, and the bytes of the function's type
+-- parameters, which are their constraints.
+use mathlib.Core.Path.{_≡_, refl, sym, ap, ap₂, _∙_}
+use mathlib.Core.List.{List, [], _∷_, _++_}
+use Prim.Native.Nat.{ℕ, zero, suc, _+_, _-_, _≤_, _<_}
+use native.Mathlib.Numerals.{add-one}
+use native.Mathlib.Omega.{arith}
+use lib.ListN.{length, take, drop, getD, length-take}
+use lib.Seq.{drop-cons}
+use Rattle.definitions.specs.SignatureToken.{Signature}
+use Rattle.definitions.specs.CompiledUnit as defs
+use Rattle.definitions.specs.Abilities as defs-abilities
+use Rattle.definitions.specs.Reading.{read, _>>=_, byte, many, give}
+use Rattle.definitions.specs.Reader.{compiledUnit, items, ability, signatureOf, functionView, structHandle}
+use Rattle.definitions.specs.Places.{TypeAt, TableAt}
+use Rattle.file_format.specs.AbilitySet.{abilitiesAnswer}
+use Rattle.file_format.specs.declared.Abilities.{Abilities}
+use Rattle.record_reader.specs.Apart.{parts, made, byte-read}
+use Rattle.binary_views.specs.Handles.{HandlesAt, byteUpTo-read}
+use Rattle.binary_views.specs.Abilities.{AbilitiesAt}
+use Rattle.unit.specs.declared.View.{View}
+use Rattle.unit.specs.Outline.{starts, placesOf}
+use Rattle.unit.specs.Entries.{segments, joined, starts-joined}
+use Rattle.unit.specs.Views.{UnitRead, viewOf, startsOf}
+use Rattle.unit_views.specs.Tables.{stand}
+use Rattle.unit_views.specs.Lookups.{signature-read}
+use Rattle.unit_views.specs.Answers.{AbilitiesIs}
+
+-- ── the constraints ──
+
+-- so many ability sets were read: they are the bytes
+pub record SetsRead (s : List ℕ) (n p : ℕ) (sets : List ℕ) : Type 0 where
+  pub is : sets ≡ take n (drop p s)
+  pub within : p + n ≤ length s
+
+sets-read : (s : List ℕ) (n p : ℕ) {sets : List ℕ} {e : ℕ} → p ≤ length s → many n ability s p ≡ read sets e → SetsRead s n p sets
+unfolding many ability
+sets-read s zero p l h = record { is = sym (made s h .0); within = omega arith }
+sets-read s (suc n) p l h =
+    let a = parts ability (λ a. many n ability >>= λ rest. give (a ∷ rest)) s p h in
+    let b = parts (many n ability) (λ rest. give (a .value ∷ rest)) s (a .middle) (a .second) in
+    let x = byteUpTo-read 15 (a .first) in
+    let k = x .within in
+    let q = x .after in
+    let r = sets-read s n (a .middle) (omega arith) (b .first) in
+    let m = r .within in
+    let z = made s (b .second) .0 in
+    record { is = sym z ∙ rw (r .is, q, drop-cons s p 0 k, x .is, add-one p); within = omega arith }
+
+-- the constraints of the function whose record's body stands at p
+pub record ConstraintsRead (s : List ℕ) (p : ℕ) (v : defs.FunctionView) : Type 0 where
+  pub here : p + 6 < length s
+  pub sets : SetsRead s (getD s (p + 6) 0) (p + 7) (v .typeParameters)
+
+constraints-read : (l : List Signature) (s : List ℕ) (p : ℕ) {v : defs.FunctionView} {e : ℕ} → functionView l s p ≡ read v e → ConstraintsRead s p v
+unfolding functionView
+constraints-read l s p {v} h =
+    let a = parts (signatureOf l) _ s p h in
+    let b = parts (signatureOf l) _ s (a .middle) (a .second) in
+    let c = parts (signatureOf l) _ s (b .middle) (b .second) in
+    let d = parts byte _ s (c .middle) (c .second) in
+    let f = parts (many (d .value) ability) _ s (d .middle) (d .second) in
+    let x = signature-read l s p (a .first) .next-at in
+    let y = signature-read l s (a .middle) (b .first) .next-at in
+    let z = signature-read l s (b .middle) (c .first) .next-at in
+    let m : c .middle ≡ p + 6 = omega arith in
+    let n = byte-read s (c .middle) (d .first) in
+    let w = n .within in
+    let o : d .middle ≡ p + 7 = n .next-at ∙ omega arith in
+    let i : d .value ≡ getD s (p + 6) 0 = n .is ∙ ap (λ (j : ℕ). getD s j 0) m in
+    let t : f .value ≡ v .typeParameters = ap (λ (v : defs.FunctionView). v .typeParameters) (made s (f .second) .0) in
+    let r = sets-read s (d .value) (d .middle) (omega arith) (f .first) in
+    record { here = omega arith; sets = record { is = sym t ∙ rw (← i, ← o) (r .is); within = rw (← i, ← o) (r .within) } }
+
+front-of : (n : ℕ) (xs a rest : List ℕ) → take n xs ≡ a ++ rest → take (length a) xs ≡ a
+front-of n xs [] rest h = refl
+front-of zero xs (y ∷ a) rest h = let z : _≡_ {A = ℕ} 0 1 = cc in absurd (omega arith)
+front-of (suc n) [] (y ∷ a) rest h = let z : _≡_ {A = ℕ} 0 1 = cc in absurd (omega arith)
+front-of (suc n) (x ∷ xs) (y ∷ a) rest h =
+    let p : x ≡ y = cc in
+    let q : take n xs ≡ a ++ rest = cc in
+    ap₂ _∷_ p (front-of n xs a rest q)
+
+module _ {s index : List ℕ} {view : View} (u : UnitRead s index view) where
+  pub constraints-at : ConstraintsRead s (view .function + 1) (compiledUnit (u .decoded) .function)
+  unfolding viewOf compiledUnit
+  constraints-at = rw (u .viewed) (constraints-read (items (u .decoded .signatures)) s (u .decoded .function .start + 1) (stand u .function .1))
+
+  -- ── the struct handles ──
+
+  handles-count : view .«struct_handles» .count ≡ length (starts (u .decoded .structHandles))
+  unfolding viewOf placesOf
+  handles-count = rw (u .viewed) refl
+
+  handles-first : take (view .«struct_handles» .count) index ≡ starts (u .decoded .structHandles)
+  unfolding joined
+  handles-first =
+      let h : take (length (startsOf (u .decoded))) index ≡ starts (u .decoded .structHandles) ++ joined (drop 1 (segments (u .decoded))) = u .indexed ∙ starts-joined (u .decoded) in
+      rw handles-count (front-of (length (startsOf (u .decoded))) index (starts (u .decoded .structHandles)) (joined (drop 1 (segments (u .decoded)))) h)
+
+  pub handles-at : (n : ℕ) → n ≡ view .«struct_handles» .count → HandlesAt s (take n index)
+  unfolding compiledUnit
+  handles-at n e = record { structHandles = compiledUnit (u .decoded) .structHandles; stand = rw (e, handles-first) (stand u .structHandles) }
+
+  pub handles-room : view .«struct_handles» .count ≤ length index
+  handles-room = omega (arith, handles-count, sym (length-take (view .«struct_handles» .count) index) ∙ ap length handles-first)
+
+  pub constraints-here : (here : view .function + 7 < length s) × (SetsRead s (getD s (view .function + 7) 0) (view .function + 8) (compiledUnit (u .decoded) .function .typeParameters))
+  constraints-here =
+      let q : view .function + 1 + 6 ≡ view .function + 7 = omega arith in
+      let r : view .function + 1 + 7 ≡ view .function + 8 = omega arith in
+      (omega (arith, constraints-at .here), rw (q, r) at (constraints-at .sets))
+
+  pub constraints-are :
+      {n : ℕ} → n ≡ getD s (view .function + 7) 0 →
+      take (view .function + 8 + n - (view .function + 8)) (drop (view .function + 8) s) ≡ compiledUnit (u .decoded) .function .typeParameters
+  constraints-are {n} e =
+      let z : view .function + 8 + n - (view .function + 8) ≡ getD s (view .function + 7) 0 = omega arith ∙ e in
+      rw z (sym (constraints-here .1 .is))
+
+  pub abilities-here :
+      {ty constraints : List ℕ} {place n : ℕ} {r : Abilities} (p : TypeAt ty place) → n ≡ view .«struct_handles» .count →
+      constraints ≡ compiledUnit (u .decoded) .function .typeParameters → AbilitiesAt ty place s (take n index) constraints r → AbilitiesIs (compiledUnit (u .decoded)) (p .type) r
+  unfolding defs-abilities.abilities handles-at
+  abilities-here {n = n} p e k w = record { is = rw k at (w .answers p (handles-at n e)) }

@@ -1,0 +1,84 @@
+// The public calls of document 01 that judge a unit without its types: read a unit, and stack usage. They ask nothing of their caller. An
+// area that is too long is refused before the unit is looked at; else the call leaves zeros in the whole area.
+use status::Position;
+use status::StatusCode;
+use status::Verdict;
+use unit::ReadUnit;
+ghost use mathlib.Core.Path.{_≡_};
+ghost use Prim.Native.Nat.{_≤_};
+ghost use lib.ListN.{length, replicate};
+ghost use Rattle.definitions.specs.Reader.{readUnit};
+ghost use Rattle.definitions.specs.Verdicts.{afterReading, reading, readVerdict, stackUsageVerdict, areaAfter};
+ghost use Rattle.verifier.specs.Judges.{judgeOf};
+
+// What a call runs over a unit that was read.
+enum Passes {
+    None,
+    StackUsage,
+}
+
+// Writes zeros over the whole area.
+fn clear(area: &mut [u8])
+    ensures { λ _. ⌜ now (area .exit) ≡ replicate (length (now (area .entry))) 0 ⌝ }
+{
+    let mut i = 0usize;
+    while i < area.len() {
+        area[i] = 0;
+        i += 1;
+    }
+}
+
+// Reads a unit and judges it, with an index that has an entry for each of its bytes.
+fn judge_in(s: &[u8], index: &mut [u16], passes: Passes) -> Verdict
+    requires { ⌜ (length (now s) ≤ 32768 → length (now s) ≤ length (now index)) ⌝ }
+    ensures { λ r. ⌜ r ≡ afterReading (readUnit (now (s .entry))) (judgeOf passes) ⌝ }
+{
+    match unit::read(s, index) {
+        ReadUnit::Refused(status, p) => Verdict::Refused(status, Position::Byte(p as u16)),
+        ReadUnit::Unit(view) => match passes {
+            Passes::None => Verdict::Accepted,
+            Passes::StackUsage => stack_usage_verifier::verify(s, index, view),
+        },
+    }
+}
+
+// Reads a unit and judges it. A short unit takes a short index, since an index is zeroed before it is filled.
+fn judge(s: &[u8], passes: Passes) -> Verdict
+    ensures { λ r. ⌜ r ≡ afterReading (readUnit (now (s .entry))) (judgeOf passes) ⌝ }
+{
+    if s.len() <= 1024 {
+        let mut short = [0u16; 1024];
+        return judge_in(s, &mut short, passes);
+    }
+    let mut index = [0u16; 32768];
+    judge_in(s, &mut index, passes)
+}
+
+// What every public call does: AREA first, then the unit is read and judged. The area is zeros afterwards, or untouched if it was refused.
+fn call(s: &[u8], area: &mut [u8], passes: Passes) -> Verdict
+    ensures { λ r. ⌜ r ≡ reading (now (s .entry)) (length (now (area .entry))) (judgeOf passes) ⌝ }
+    ensures { λ r. ⌜ now (area .exit) ≡ areaAfter (now (area .entry)) ⌝ }
+{
+    if 65535 < area.len() {
+        return Verdict::Refused(StatusCode::AREA, Position::Byte(0));
+    }
+    let verdict = judge(s, passes);
+    clear(area);
+    verdict
+}
+
+// Document 01's "read a unit".
+pub fn read_unit(s: &[u8], area: &mut [u8]) -> Verdict
+    ensures { λ r. ⌜ r ≡ readVerdict (now (s .entry)) (length (now (area .entry))) ⌝ }
+    ensures { λ r. ⌜ now (area .exit) ≡ areaAfter (now (area .entry)) ⌝ }
+{
+    call(s, area, Passes::None)
+}
+
+// Document 01's "stack usage".
+pub fn verify_stack_usage(s: &[u8], area: &mut [u8]) -> Verdict
+    ensures { λ r. ⌜ r ≡ stackUsageVerdict (now (s .entry)) (length (now (area .entry))) ⌝ }
+    ensures { λ r. ⌜ now (area .exit) ≡ areaAfter (now (area .entry)) ⌝ }
+{
+    call(s, area, Passes::StackUsage)
+}
