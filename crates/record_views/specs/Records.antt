@@ -1,7 +1,7 @@
 -- What the answers of this crate say of a record or an instruction that was read.
 use mathlib.Core.Path.{_≡_}
 use mathlib.Core.List.{List}
-use Prim.Native.Nat.{ℕ, _+_, _<_}
+use Prim.Native.Nat.{ℕ, _<_}
 use lib.ListN.{length, getD}
 use Rattle.definitions.specs.SignatureToken.{Signature, arguments, encodeAll}
 use Rattle.definitions.specs.Bytecode.{Bytecode, Nop}

@@ -7,26 +7,25 @@ use native.Mathlib.Decide.{decLe}
 use native.Mathlib.Omega.{arith}
 use lib.Dec.{leb, leb→le, T}
 use lib.ListN.{length, getD, List·getD-eq-default}
-use Rattle.status.specs.declared.StatusCode.the-variants.{SHORT, VALUE}
-use Rattle.definitions.specs.SignatureToken.{SignatureToken, Signature, arguments, count, encodeAll}
+use Rattle.status.specs.declared.StatusCode.the-variants.{VALUE}
+use Rattle.definitions.specs.SignatureToken.{Signature, arguments, count}
 use Rattle.definitions.specs.Bytecode.{Bytecode}
 use Rattle.definitions.specs.CompiledUnit as defs
 use Rattle.definitions.specs.Commands.{InstructionForm, plain, unkept, local, counted, commandsOf, instructionForms, instructionForm}
-use Rattle.definitions.specs.Reading.{Read, read, stop, Reader, next, _>>=_, _>>_, give, fail, here, need, byte, u16, number, skip, many}
+use Rattle.definitions.specs.Reading.{read, next, _>>=_, _>>_, give, here, need, byte, u16, number, skip, many}
 use Rattle.definitions.specs.Reader.{type, types, byteUpTo, fieldInformation, structDefinition, operands, instruction}
-use Rattle.definitions.specs.Places.{At, RecordAt}
 use Rattle.record_reader.specs.ReadTo.{readTo}
-use Rattle.record_reader.specs.declared.ReadTo.the-variants.{Next, Refused}
-use Rattle.record_reader.specs.Alike.{skip-next, skip-short, number-takes}
+use Rattle.record_reader.specs.declared.ReadTo.the-variants.{Next}
+use Rattle.record_reader.specs.Alike.{skip-short, number-takes}
 use Rattle.record_reader.specs.Bodies.{widthOf, operandWidth}
 use Rattle.record_reader.specs.BodyLaws.{same-instructions}
-use Rattle.record_reader.specs.Apart.{parts, made, byte-read, u16Of, u16-read, numberOf, OperandsAt, plain-at, unkept-at, local-at, index-at, counted-at, InstructionRead, instruction-read}
-use Rattle.record_reader.specs.Sound.{AllStand, types-sound}
+use Rattle.record_reader.specs.Apart.{parts, made, byte-read, u16Of, u16-read, numberOf, OperandsAt, plain-at, unkept-at, local-at, index-at, counted-at, instruction-read}
+use Rattle.record_reader.specs.Sound.{types-sound}
 use Rattle.record_views.specs.declared.TypeList.{TypeList}
 use Rattle.record_views.specs.declared.Fields.{Fields}
 use Rattle.record_views.specs.declared.StructDef.{StructDef}
 use Rattle.record_views.specs.declared.Instruction.{Instruction}
-use Rattle.record_views.specs.Records.{ListIs, ListAt, FieldsAre, DefIs, DefAt, applied, instructionOf, InstructionHere, InstructionIs}
+use Rattle.record_views.specs.Records.{ListAt, DefIs, DefAt, applied, instructionOf, InstructionHere, InstructionIs}
 
 -- every element is a byte
 abbrev pub Bytes : List ℕ → Type 0

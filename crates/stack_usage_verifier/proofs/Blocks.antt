@@ -1,21 +1,20 @@
 -- The two loops: over the instructions of a block, and over the blocks. Each has its invariant, where it starts, one turn, and its ends.
-use mathlib.Core.Path.{_≡_, refl, sym, ap, _∙_}
+use mathlib.Core.Path.{_≡_, refl, ap, _∙_}
 use mathlib.Core.List.{List, [], _∷_}
 use Prim.Native.Nat.{ℕ, zero, suc, _+_, _-_, _≤_, _<_}
 use native.Mathlib.Omega.{arith}
 use native.Mathlib.Numerals.{add-one}
-use lib.ListN.{length, take, drop, getElem?}
+use lib.ListN.{length, take, drop}
 use Rattle.status.specs.declared.StatusCode.{StatusCode}
 use Rattle.status.specs.declared.StatusCode.the-variants.{«POSITIVE_STACK_SIZE_AT_BLOCK_END»}
 use Rattle.status.specs.declared.Position.the-variants.{BlockStart}
-use Rattle.status.specs.declared.Verdict.{Verdict}
 use Rattle.status.specs.declared.Verdict.the-variants.{Accepted}
 use Rattle.status.specs.Verdict.{refusal}
-use Rattle.definitions.specs.Result.{Result, ok, err, _>>?_, orErr, at}
+use Rattle.definitions.specs.Result.{ok, err, _>>?_, at}
 use Rattle.definitions.specs.Bytecode.{Bytecode}
 use Rattle.definitions.specs.CompiledUnit.{CompiledUnit, Block}
 use Rattle.definitions.specs.StackUsage.{Effect, instructionEffect, instructionsOf, heightAfter, heightOver, atBlockEnd, verifyBlock}
-use Rattle.definitions.specs.Verify.{afterBlock, usageOver, stackUsage}
+use Rattle.definitions.specs.Verify.{usageOver, stackUsage}
 
 -- what stands at a place of a list is the first of what is left there
 from-place : {A : Type 0} (l : List A) (i : ℕ) {a : A} → at l i ≡ ok a → drop i l ≡ a ∷ drop (suc i) l

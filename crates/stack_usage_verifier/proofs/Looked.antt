@@ -1,7 +1,7 @@
 -- Effects that are looked up: one look-up after another, what each look-up of the unit tells, a call's effect by the counts of its two
 -- signatures, and the decision over the opcode.
 use mathlib.Core.Path.{_≡_, refl, sym, ap, _∙_}
-use mathlib.Core.Bool.{Bool, false}
+use mathlib.Core.Bool.{false}
 use mathlib.Core.List.{List, [], _∷_}
 use Prim.Native.Nat.{ℕ}
 use lib.ListN.{length}

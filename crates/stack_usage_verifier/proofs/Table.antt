@@ -1,6 +1,6 @@
 -- The rule of the table of effects. One test, computed over the whole table with the unit and the operands left open, is carried to each
 -- entry: `every` tests a list, and `at` reads the test off at a place.
-use mathlib.Core.Path.{_≡_, refl, subst, sym, _∙_, ap}
+use mathlib.Core.Path.{_≡_}
 use mathlib.Core.Bool.{Bool, true, false, _&&_, _||_}
 use mathlib.Core.List.{List, [], _∷_}
 use Prim.Native.Nat.{ℕ, zero, suc, _+_, _<_}
@@ -10,7 +10,6 @@ use lib.Dec.{T, eqb, eqb→eq}
 use lib.ListN.{length, getD}
 use Rattle.definitions.specs.Result.{Result, ok, err}
 use Rattle.definitions.specs.CompiledUnit.{CompiledUnit}
-use Rattle.definitions.specs.Commands.{oneOf}
 use Rattle.definitions.specs.StackUsage as defs
 use Rattle.stack_usage_verifier.specs.declared.Effect.{Effect}
 use Rattle.record_views.specs.Records.{instructionOf}

@@ -1,8 +1,8 @@
 -- The test of the blocks, block by block, at the places that the index has.
-use mathlib.Core.Path.{_≡_, refl, sym, ap, _∙_}
-use mathlib.Core.Bool.{Bool, true, false, _&&_}
-use mathlib.Core.List.{List, [], _∷_, map}
-use Prim.Native.Nat.{ℕ, zero, suc, _+_, _*_, _≤_, _<_}
+use mathlib.Core.Path.{_≡_, sym, ap, _∙_}
+use mathlib.Core.Bool.{_&&_}
+use mathlib.Core.List.{List, _∷_}
+use Prim.Native.Nat.{ℕ, suc, _+_, _≤_, _<_}
 use native.Mathlib.Numerals.{add-one}
 use native.Mathlib.Omega.{arith}
 use borrow.Author.Tests.{lt-ltb, le-ltb, le-leb, lt-leb}
@@ -11,7 +11,7 @@ use lib.ListN.{length, getD, drop, length-map, drop-of-length-le, List·getD-map
 use lib.Seq.{drop-cons}
 use Rattle.status.specs.declared.StatusCode.the-variants.{BLOCK}
 use Rattle.definitions.specs.CompiledUnit.{Block}
-use Rattle.definitions.specs.Reading.{Read, read, stop, Reader, next, _>>=_, _>>_, give, need, Placed}
+use Rattle.definitions.specs.Reading.{read, stop, next, _>>=_, _>>_, give, need, Placed}
 use Rattle.definitions.specs.Reader.{items, block, blocksWithin}
 use Rattle.record_reader.specs.declared.ReadTo.the-variants.{Next, Refused}
 use Rattle.record_reader.specs.ReadTo.{readTo}

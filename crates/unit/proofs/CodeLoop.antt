@@ -1,7 +1,7 @@
 -- The loop over the instructions: what holds at its head, and what each way out of a turn says of the code.
-use mathlib.Core.Path.{_≡_, refl, sym, ap, _∙_}
-use mathlib.Core.List.{List, [], _∷_, _++_, map, append-assoc, append-nil, map-append}
-use Prim.Native.Nat.{ℕ, zero, suc, _+_, _-_, _*_, _≤_, _<_}
+use mathlib.Core.Path.{_≡_, refl, ap, _∙_}
+use mathlib.Core.List.{List, [], _∷_, _++_, append-assoc, append-nil, map-append}
+use Prim.Native.Nat.{ℕ, suc, _+_, _-_, _*_, _≤_, _<_}
 use native.Mathlib.Omega.{arith}
 use lib.ListN.{length, getD, take, set, length-append, length-set}
 use lib.Seq.{take-suc-set}
@@ -9,7 +9,7 @@ use Rattle.status.specs.declared.StatusCode.{StatusCode}
 use Rattle.status.specs.declared.StatusCode.the-variants.{SHORT}
 use Rattle.definitions.specs.Bytecode.{Bytecode}
 use Rattle.definitions.specs.CompiledUnit.{Head}
-use Rattle.definitions.specs.Reading.{Read, read, stop, Reader, next, _>>=_, give, here, byte, u16, many, Placed, placed}
+use Rattle.definitions.specs.Reading.{read, stop, Reader, next, _>>=_, give, here, u16, many, Placed, placed}
 use Rattle.definitions.specs.Commands.{Commands, commandsOf}
 use Rattle.definitions.specs.Reader.{instruction, code}
 use Rattle.record_reader.specs.Alike.{byte-next, byte-short}
@@ -17,7 +17,7 @@ use Rattle.record_reader.specs.Ends.{Reaches, reads-within}
 use Rattle.unit.specs.declared.ReadTable.{ReadTable}
 use Rattle.unit.specs.Outline.{starts, places}
 use Rattle.unit.specs.Filled.{Room, Filled, FilledBy, tableOf, CodeAnswered}
-use Rattle.unit.specs.Parts.{next-assoc, next-give}
+use Rattle.unit.specs.Parts.{next-assoc}
 use Rattle.unit.proofs.TableLoop.{onto, onto-one, onto-none, answers-read, answers-refused, starts-size, filled-so-far}
 
 -- ── the count ──

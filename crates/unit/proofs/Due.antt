@@ -1,20 +1,17 @@
 -- The command that is due: one law for each way that the function goes.
-use mathlib.Core.Path.{_≡_, refl, sym, _∙_}
-use mathlib.Core.Bool.{Bool, true, false}
+use mathlib.Core.Path.{_≡_}
+use mathlib.Core.Bool.{true, false}
 use mathlib.Core.List.{List}
 use Prim.Native.Nat.{ℕ, _+_, _≤_, _<_}
-use native.Mathlib.Omega.{arith}
 use borrow.Author.Tests.{eq-eqb, ne-eqb}
-use lib.Dec.{eqb}
 use lib.ListN.{length, getD}
 use Rattle.status.specs.declared.StatusCode.the-variants.{SHORT, COMMAND, ORDER}
-use Rattle.definitions.specs.Reading.{Read, read, stop, next, _>>=_, _>>_, here, need, byte}
+use Rattle.definitions.specs.Reading.{next, _>>=_, _>>_, here, need}
 use Rattle.definitions.specs.Commands.{Commands, known}
 use Rattle.definitions.specs.Reader.{due}
 use Rattle.record_reader.specs.declared.ReadTo.the-variants.{Next, Refused}
 use Rattle.record_reader.specs.ReadTo.{readTo}
 use Rattle.record_reader.specs.Alike.{byte-next, byte-short}
-use Rattle.record_reader.specs.Apart.{parts, byte-read}
 
 module _ (commands : Commands) (c : ℕ) (s : List ℕ) (at : ℕ) where
   pub due-short : length s ≤ at → Refused SHORT (length s) ≡ readTo (due commands c s at)

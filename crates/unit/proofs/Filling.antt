@@ -1,8 +1,7 @@
 -- What is written into the index by one function after another: the places of both, in turn.
-use mathlib.Core.Path.{_≡_, refl, sym, ap, _∙_}
-use mathlib.Core.List.{List, [], _∷_, _++_, append-assoc}
+use mathlib.Core.Path.{_≡_, refl, ap, _∙_}
+use mathlib.Core.List.{List, _++_, append-assoc}
 use Prim.Native.Nat.{ℕ, _+_, _≤_}
-use native.Mathlib.Nat.{add-assoc}
 use native.Mathlib.Omega.{arith}
 use lib.ListN.{length, take, length-append}
 use Rattle.status.specs.declared.StatusCode.{StatusCode}
@@ -14,7 +13,7 @@ use Rattle.unit.specs.declared.ReadTable.{ReadTable}
 use Rattle.unit.specs.declared.ReadFour.{ReadFour}
 use Rattle.unit.specs.declared.ReadTables.{ReadTables}
 use Rattle.unit.specs.Outline.{FourPlaces, inFour, TablePlaces, inTables, recordPlaces, fourPlaces, tablePlaces}
-use Rattle.unit.specs.Filled.{Room, Filled, FilledBy, entries, tableOf, fourFrom, fourOf, afterFour, tablesFrom, tablesOf}
+use Rattle.unit.specs.Filled.{Room, Filled, FilledBy, entries, tableOf, fourFrom, fourOf, afterFour, tablesOf}
 
 module _ {s before mid : List ℕ} {base : ℕ} {ps : List ℕ} {e : ℕ} (f : Filled s base before ps e mid) where
   -- there is room for what follows

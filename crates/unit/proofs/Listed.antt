@@ -10,16 +10,15 @@ use lib.ListN.{length, getD, length-append, length-map, List·getD-append}
 use Rattle.status.specs.declared.StatusCode.{StatusCode}
 use Rattle.status.specs.declared.StatusCode.the-variants.{BLOCK, TRAILING}
 use Rattle.definitions.specs.Bytecode.{Bytecode}
-use Rattle.definitions.specs.CompiledUnit.{Head, Block}
+use Rattle.definitions.specs.CompiledUnit.{Block}
 use Rattle.definitions.specs.Reading.{Read, read, stop, Reader, next, _>>=_, _>>_, give, need, Placed}
-use Rattle.definitions.specs.Commands.{Commands, commandsOf}
+use Rattle.definitions.specs.Commands.{Commands}
 use Rattle.definitions.specs.Reader.{table, due, code, end, blocksWithin, block}
 use Rattle.record_reader.specs.BodyLaws.{body-block}
 use Rattle.unit.specs.declared.Table.{Table}
-use Rattle.unit.specs.declared.ReadTable.{ReadTable}
 use Rattle.unit.specs.declared.ReadListing.{ReadListing}
 use Rattle.unit.specs.Outline.{starts, places, recordPlaces, UnitListing, inListing, unitListing}
-use Rattle.unit.specs.Filled.{Room, Filled, FilledBy, entries, tableOf, listingOf, BlocksAt}
+use Rattle.unit.specs.Filled.{Filled, FilledBy, listingOf, BlocksAt}
 use Rattle.unit.specs.Parts.{named}
 use Rattle.unit.proofs.Filling.{GotTable, filled-then, table-end}
 use Rattle.unit.specs.Stand.{table-stands, places-got, places-stopped, entry, entry-there}

@@ -1,7 +1,7 @@
 -- The loop over the records of a table: what holds at its head, and what each way out of a turn says of the table.
-use mathlib.Core.Path.{_≡_, refl, sym, ap, _∙_}
-use mathlib.Core.Bool.{Bool, true, false, _&&_}
-use mathlib.Core.List.{List, [], _∷_, _++_, map, append-assoc, append-nil, map-append}
+use mathlib.Core.Path.{_≡_, refl, ap, _∙_}
+use mathlib.Core.Bool.{true, false, _&&_}
+use mathlib.Core.List.{List, [], _∷_, _++_, append-assoc, append-nil, map-append}
 use Prim.Native.Nat.{ℕ, zero, suc, _+_, _-_, _≤_, _<_}
 use native.Mathlib.Omega.{arith}
 use borrow.Author.Tests.{lt-ltb, le-ltb, eq-eqb, ne-eqb}
@@ -12,7 +12,6 @@ use Rattle.status.specs.declared.StatusCode.{StatusCode}
 use Rattle.definitions.specs.Reading.{Read, read, stop, Reader, next, _>>=_, _>>_, give, here, byte, opens, Placed}
 use Rattle.definitions.specs.Commands.{Commands, known}
 use Rattle.definitions.specs.Reader.{tableWithin, table}
-use Rattle.record_reader.specs.declared.ReadTo.{ReadTo}
 use Rattle.record_reader.specs.declared.ReadTo.the-variants.{Next, Refused}
 use Rattle.record_reader.specs.ReadTo.{readTo}
 use Rattle.record_reader.specs.Alike.{byte-next}

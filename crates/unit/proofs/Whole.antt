@@ -1,32 +1,29 @@
 -- A unit under its head, and a whole unit, as the functions read them: one law for each way that they go.
 use mathlib.Core.Path.{_≡_, refl, sym, ap, _∙_}
-use mathlib.Core.Bool.{Bool, true, false}
-use mathlib.Core.List.{List, [], _∷_, _++_}
+use mathlib.Core.List.{List, _++_}
 use Prim.Native.Nat.{ℕ, zero, suc, _+_, _≤_, _<_}
 use native.Mathlib.Omega.{arith}
 use borrow.Author.Tests.{le-leb, lt-leb}
-use lib.Dec.{leb}
 use lib.ListN.{length, getD, take, length-append, length-map}
 use Rattle.status.specs.declared.StatusCode.{StatusCode}
 use Rattle.status.specs.declared.StatusCode.the-variants.{«TOO_LONG», SHORT, COMMAND}
 use Rattle.definitions.specs.SignatureToken.{Signature}
 use Rattle.definitions.specs.CompiledUnit as defs
-use Rattle.definitions.specs.Reading.{Read, read, stop, Reader, next, _>>=_, _>>_, give, fail, here, Placed}
+use Rattle.definitions.specs.Reading.{Read, read, stop, next, _>>=_, _>>_, give, fail, here}
 use Rattle.definitions.specs.Commands.{Commands, commandsOf}
 use Rattle.definitions.specs.Reader.{Decoded, items, due, functionView, unitUnder, unitAfterHead, headCommand, HeadCommand, unopened, unit, readUnit}
 use Rattle.record_reader.specs.Alike.{byte-next, byte-short}
 use Rattle.record_reader.specs.Ends.{reads-within, functionView-reaches}
 use Rattle.unit.specs.declared.Head.{Head}
-use Rattle.unit.specs.declared.Table.{Table}
 use Rattle.unit.specs.declared.Tables.{Tables}
 use Rattle.unit.specs.declared.Listing.{Listing}
 use Rattle.unit.specs.declared.View.{View}
 use Rattle.unit.specs.declared.ReadTables.{ReadTables}
 use Rattle.unit.specs.declared.ReadListing.{ReadListing}
 use Rattle.unit.specs.declared.ReadUnit.{ReadUnit}
-use Rattle.unit.specs.Outline.{starts, TablePlaces, tablePlaces, inTables, inFour, UnitTables, unitTables, placesOf, UnitListing, unitListing, inListing}
+use Rattle.unit.specs.Outline.{starts, tablePlaces, inTables, inFour, UnitTables, unitTables, placesOf, UnitListing, unitListing, inListing}
 use Rattle.unit.specs.Filled.{headOf, Room, Filled, FilledBy, tablesFrom, tablesOf, listingFrom, listingOf}
-use Rattle.unit.specs.Views.{headFor, tablesIn, listingIn, viewFrom, afterTables, viewOf, startsOf, answerOf, Indexed, UnitRead}
+use Rattle.unit.specs.Views.{headFor, viewFrom, afterTables, viewOf, startsOf, answerOf, Indexed}
 use Rattle.unit.specs.Parts.{decoded, unitInParts, unit-in-parts, tables-forgotten}
 use Rattle.unit.proofs.Filling.{filled-then, room-after, room-later}
 use Rattle.unit.specs.Stand.{due-got}

@@ -1,16 +1,15 @@
 -- The entries of each table in the index of a unit that was read: at entry i of a table is the place of its record i.
 use mathlib.Core.Path.{_≡_, refl, sym, ap, _∙_}
 use mathlib.Core.List.{List, [], _∷_, _++_, append-assoc, append-nil}
-use Prim.Native.Nat.{ℕ, zero, suc, _+_, _≤_, _<_}
+use Prim.Native.Nat.{ℕ, zero, suc, _+_, _<_}
 use native.Mathlib.Nat.{not-suc-le-zero}
 use native.Mathlib.Omega.{arith}
-use lib.ListN.{length, take, getD, length-append, length-take, length-map, List·getD-append}
+use lib.ListN.{length, take, getD, length-append, length-take, List·getD-append}
 use lib.Seq.{getD-take, getD-append-add}
-use Rattle.definitions.specs.Reader.{Decoded, readUnit}
+use Rattle.definitions.specs.Reader.{Decoded}
 use Rattle.unit.specs.declared.View.{View}
-use Rattle.unit.specs.declared.Table.{Table}
 use Rattle.unit.specs.Outline.{starts, inFour, inTables, inListing, placesOf}
-use Rattle.unit.specs.Views.{startsOf, viewOf, UnitRead}
+use Rattle.unit.specs.Views.{startsOf, UnitRead}
 
 -- ── one list after another ──
 

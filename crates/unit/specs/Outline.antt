@@ -1,6 +1,6 @@
 -- The reader of a unit in three parts, as the functions read it: the tables, the function, and the listing of blocks and code; and the
 -- places alone of what is read, which is what the functions keep.
-use mathlib.Core.List.{List, [], _∷_, _++_, map}
+use mathlib.Core.List.{List, _++_, map}
 use Prim.Native.Nat.{ℕ, _+_}
 use lib.ListN.{length}
 use Rattle.definitions.specs.SignatureToken.{SignatureToken, Signature}

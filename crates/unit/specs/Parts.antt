@@ -3,19 +3,19 @@
 use mathlib.Core.Path.{_≡_, refl, sym, ap, _∙_}
 use mathlib.Core.Bool.{Bool, true, false, _&&_}
 use mathlib.Core.List.{List, [], _∷_}
-use Prim.Native.Nat.{ℕ, zero, suc, _+_}
+use Prim.Native.Nat.{ℕ, zero, suc}
 use native.Mathlib.Omega.{arith}
 use lib.Dec.{ltb, eqb}
 use lib.ListN.{length, getD}
 use Rattle.definitions.specs.CompiledUnit.{Head, FunctionView}
 use Rattle.definitions.specs.Reading.{Read, read, stop, Reader, next, _>>=_, _>>_, give, here, byte, opens, Placed}
 use Rattle.definitions.specs.Commands.{Commands, commandsOf, known}
-use Rattle.definitions.specs.Reader.{Decoded, items, tableWithin, table, due, functionView, unitUnder, code, end, blocksWithin, type, types, structHandle, functionHandle, functionInstantiation, structDefinition, structDefInstantiation, fieldHandle, fieldInstantiation, block}
+use Rattle.definitions.specs.Reader.{Decoded, items, tableWithin, table, due, functionView, unitUnder, code}
 use Rattle.record_reader.specs.ReadTo.{readTo}
-use Rattle.record_reader.specs.Alike.{Alike, alike-self}
+use Rattle.record_reader.specs.Alike.{Alike}
 use Rattle.record_reader.specs.Bodies.{bodyOf}
-use Rattle.record_reader.specs.BodyLaws.{body-structHandle, body-signature, body-functionHandle, body-functionInstantiation, body-structDefinition, body-structDefInstantiation, body-fieldHandle, body-fieldInstantiation, body-constant, body-block}
-use Rattle.unit.specs.Outline.{starts, places, recordPlaces, FourPlaces, fourPlaces, TablePlaces, tablePlaces, UnitTables, unitTables, placesOf, UnitListing, unitListing}
+use Rattle.record_reader.specs.BodyLaws.{body-structHandle, body-signature, body-functionHandle, body-functionInstantiation, body-structDefinition, body-structDefInstantiation, body-fieldHandle, body-fieldInstantiation, body-constant}
+use Rattle.unit.specs.Outline.{starts, places, recordPlaces, fourPlaces, tablePlaces, UnitTables, unitTables, placesOf, UnitListing, unitListing}
 
 pub next-assoc :
     {A B C : Type 0} (x : Read A) (f : A → ℕ → Read B) (g : B → ℕ → Read C) → next (next x f) g ≡ next x (λ a e. next (f a e) g)

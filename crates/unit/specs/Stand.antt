@@ -1,13 +1,13 @@
 -- What was read stands where it was read: each record of a table at its place, and each instruction at its own. And the index has those
 -- places.
-use mathlib.Core.Path.{_≡_, refl, sym, ap, _∙_}
+use mathlib.Core.Path.{_≡_, sym, ap, _∙_}
 use mathlib.Core.Bool.{Bool, true, false, _&&_}
-use mathlib.Core.List.{List, [], _∷_, _++_, map}
+use mathlib.Core.List.{List, [], _∷_}
 use Prim.Native.Nat.{ℕ, zero, suc, _+_, _≤_, _<_}
 use native.Mathlib.Nat.{not-suc-le-zero, le-of-suc-le-suc}
 use native.Mathlib.Omega.{arith}
 use lib.Dec.{ltb, eqb}
-use lib.ListN.{length, getD, take, length-append, length-take, List·getD-append}
+use lib.ListN.{length, getD, take, length-append, length-take}
 use lib.Seq.{getD-take, getD-append-add}
 use Rattle.status.specs.declared.StatusCode.{StatusCode}
 use Rattle.status.specs.declared.StatusCode.the-variants.{COMMAND, ORDER}
@@ -15,7 +15,7 @@ use Rattle.definitions.specs.Reading.{Read, read, stop, Reader, next, _>>=_, _>
 use Rattle.definitions.specs.Commands.{Commands, known}
 use Rattle.definitions.specs.Reader.{tableWithin, table, due, items}
 use Rattle.definitions.specs.Places.{RecordAt, TableAt, none, more}
-use Rattle.record_reader.specs.Apart.{Parts, parts, made, byte-read}
+use Rattle.record_reader.specs.Apart.{parts, made, byte-read}
 use Rattle.unit.specs.Outline.{starts, places}
 use Rattle.unit.specs.Filled.{Filled}
 

@@ -11,9 +11,8 @@ use lib.ListN.{length, getD}
 use Rattle.status.specs.declared.StatusCode.{StatusCode}
 use Rattle.status.specs.declared.StatusCode.the-variants.{«TOO_LONG», BLOCK}
 use Rattle.definitions.specs.Result.{ok, at}
-use Rattle.definitions.specs.SignatureToken.{SignatureToken, Signature}
 use Rattle.definitions.specs.Bytecode.{Bytecode}
-use Rattle.definitions.specs.CompiledUnit.{Head, FunctionView, Block}
+use Rattle.definitions.specs.CompiledUnit.{Head, Block}
 use Rattle.definitions.specs.Reading.{Read, read, stop, Reader, next, _>>=_, _>>_, give, fail, here, need, byte, u16, many, Placed, placed}
 use Rattle.definitions.specs.Commands.{Commands, commandsOf}
 use Rattle.definitions.specs.Reader.{Decoded, items, table, due, functionView, instruction, code, end, blocksWithin, unitUnder, unitAfterHead, headCommand, HeadCommand, opened, unopened, unit, readUnit, type, types, structHandle, functionHandle, functionInstantiation, structDefinition, structDefInstantiation, fieldHandle, fieldInstantiation, block}

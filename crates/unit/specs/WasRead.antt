@@ -1,5 +1,5 @@
 -- What a caller of `read` has where the answer is a view: the unit was read.
-use mathlib.Core.Path.{_≡_, refl, sym, ap, _∙_}
+use mathlib.Core.Path.{_≡_, refl}
 use mathlib.Core.List.{List}
 use Prim.Native.Nat.{ℕ}
 use native.Mathlib.Omega.{arith}
@@ -8,7 +8,7 @@ use Rattle.definitions.specs.Reading.{Read, read, stop}
 use Rattle.definitions.specs.Reader.{Decoded, readUnit}
 use Rattle.unit.specs.declared.View.{View}
 use Rattle.unit.specs.declared.ReadUnit.{ReadUnit}
-use Rattle.unit.specs.Views.{viewOf, answerOf, Indexed, UnitRead}
+use Rattle.unit.specs.Views.{answerOf, Indexed, UnitRead}
 
 module _ (s index : List ℕ) {r : ReadUnit} (q : r ≡ answerOf (readUnit s)) where
   pub was-read : Indexed (readUnit s) index → {view : View} → r ≡ ReadUnit.Unit view → UnitRead s index view

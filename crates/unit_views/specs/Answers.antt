@@ -1,17 +1,15 @@
 -- How the answers of the look-ups stand for those of the definitions.
 use mathlib.Core.List.{List, _++_}
-use mathlib.Core.Path.{_≡_, refl, sym, _∙_}
+use mathlib.Core.Path.{_≡_, refl}
 use Prim.Native.Nat.{ℕ, _<_, _≤_}
-use native.Mathlib.Omega.{arith}
-use lib.ListN.{length, getD}
 use Rattle.status.specs.declared.StatusCode.{StatusCode}
 use Rattle.definitions.specs.Result.{Result, ok, err, at}
-use Rattle.definitions.specs.SignatureToken.{SignatureToken, Signature, arguments, encode, encodeAll}
+use Rattle.definitions.specs.SignatureToken.{SignatureToken, Signature, encode}
 use Rattle.definitions.specs.CompiledUnit as defs
 use Rattle.definitions.specs.Abilities as defs-abilities
 use Rattle.file_format.specs.AbilitySet.{abilitiesAnswer}
 use Rattle.file_format.specs.declared.Abilities.{Abilities}
-use Rattle.definitions.specs.Reader.{Decoded, compiledUnit}
+use Rattle.definitions.specs.Reader.{compiledUnit}
 use Rattle.definitions.specs.Places.{At, Standing}
 use Rattle.record_views.specs.Records.{ListIs, DefIs, instructionOf}
 use Rattle.unit.specs.declared.View.{View}
@@ -19,7 +17,6 @@ use Rattle.unit.specs.Views.{UnitRead}
 use Rattle.record_views.specs.declared.Instruction.{Instruction}
 use Rattle.unit_views.specs.declared.Block.{Block}
 use Rattle.record_views.specs.declared.TypeList.{TypeList}
-use Rattle.record_views.specs.declared.StructDef.{StructDef}
 use Rattle.unit_views.specs.declared.TypeResult.{TypeResult}
 use Rattle.unit_views.specs.declared.SignatureResult.{SignatureResult}
 use Rattle.unit_views.specs.declared.FunctionHandleResult.{FunctionHandleResult}

@@ -11,9 +11,8 @@ use Rattle.definitions.specs.SignatureToken.{Signature}
 use Rattle.definitions.specs.CompiledUnit as defs
 use Rattle.definitions.specs.Abilities as defs-abilities
 use Rattle.definitions.specs.Reading.{read, _>>=_, byte, many, give}
-use Rattle.definitions.specs.Reader.{compiledUnit, items, ability, signatureOf, functionView, structHandle}
-use Rattle.definitions.specs.Places.{TypeAt, TableAt}
-use Rattle.file_format.specs.AbilitySet.{abilitiesAnswer}
+use Rattle.definitions.specs.Reader.{compiledUnit, items, ability, signatureOf, functionView}
+use Rattle.definitions.specs.Places.{TypeAt}
 use Rattle.file_format.specs.declared.Abilities.{Abilities}
 use Rattle.record_reader.specs.Apart.{parts, made, byte-read}
 use Rattle.binary_views.specs.Handles.{HandlesAt, byteUpTo-read}

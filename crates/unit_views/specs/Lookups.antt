@@ -11,7 +11,7 @@ use lib.ListN.{length, getD, length-map}
 use Rattle.status.specs.declared.StatusCode.{StatusCode}
 use Rattle.status.specs.declared.StatusCode.the-variants.{«OUT_OF_TABLE», «INVALID_OPERATION_IN_SCRIPT», VALUE}
 use Rattle.definitions.specs.Result.{Result, ok, err, at, _>>?_}
-use Rattle.definitions.specs.SignatureToken.{SignatureToken, Signature, arguments, encode, encodeAll}
+use Rattle.definitions.specs.SignatureToken.{Signature, arguments, encode, encodeAll}
 use Rattle.definitions.specs.Bytecode.{Bytecode, Nop}
 use Rattle.definitions.specs.CompiledUnit as defs
 use Rattle.definitions.specs.Commands.{commandsOf}
@@ -24,8 +24,8 @@ use Rattle.record_reader.specs.Sound.{type-sound}
 use Rattle.record_views.specs.declared.Instruction.{Instruction}
 use Rattle.record_views.specs.declared.StructDef.{StructDef}
 use Rattle.record_views.specs.declared.TypeList.{TypeList}
-use Rattle.record_views.specs.Records.{ListIs, ListAt, DefIs, DefAt, InstructionHere, InstructionIs}
-use Rattle.record_views.specs.Reread.{Bytes, def-read}
+use Rattle.record_views.specs.Records.{ListAt, DefIs, DefAt, InstructionHere, InstructionIs}
+use Rattle.record_views.specs.Reread.{Bytes}
 use Rattle.unit.specs.declared.Head.{Head}
 use Rattle.unit.specs.declared.Table.{Table}
 use Rattle.unit.specs.declared.View.{View}
@@ -34,13 +34,12 @@ use Rattle.unit.specs.Entries.{Has, segments, baseFrom, segment-at}
 use Rattle.unit.specs.Standing.{then-parts, here-is, needed}
 use Rattle.unit.specs.Views.{UnitRead, viewOf, headFor}
 use Rattle.unit_views.specs.declared.PairAt.{PairAt}
-use Rattle.unit_views.specs.declared.PairAt.the-variants.{Pair, OutOfTable}
 use Rattle.unit_views.specs.declared.Block.{Block}
 use Rattle.unit_views.specs.declared.TypeResult.{TypeResult}
 use Rattle.unit_views.specs.declared.SignatureResult.{SignatureResult}
 use Rattle.unit_views.specs.declared.StructDefResult.{StructDefResult}
 use Rattle.unit_views.specs.Tables.{TableIn, Found, Fits, PairIs, placed, past, pairResult, pairs-fit, pair-answer, PairsFit, stand, signatures-in, structDefs-in, constants-in, blocks-in, functionHandles-in, functionInstantiations-in, structInstantiations-in, fieldHandles-in, fieldInstantiations-in}
-use Rattle.unit_views.specs.Answers.{TypeIs, SignatureIs, StructDefIs, blockOf, BlockAt, InstructionAt, Returns, LocalPlaces, typeAnswer, signature-found, signature-refused, functionHandleAnswer, functionInstantiationAnswer, structInstantiationAnswer, fieldHandleAnswer, fieldInstantiationAnswer}
+use Rattle.unit_views.specs.Answers.{TypeIs, SignatureIs, StructDefIs, blockOf, BlockAt, InstructionAt, Returns, LocalPlaces, typeAnswer, signature-found, signature-refused}
 
 -- record i of a table stands at p
 pub found : {A : Type 0} {body : Reader A} {s index : List ℕ} {t : Table} {l : List A} → TableIn body s index t l → {i p : ℕ} → i < t .count → p ≡ getD index (t .base + i) 0 → Found body s l i p

@@ -1,25 +1,22 @@
 -- The tables of a unit that was read, as a look-up sees them: the index has the place of each record, and the record stands there.
 use mathlib.Core.Path.{_≡_, refl, sym, ap, _∙_}
 use mathlib.Core.Bool.{Bool, true, false}
-use mathlib.Core.List.{List, [], _∷_}
-use mathlib.Core.Option.{Option, some, none}
+use mathlib.Core.List.{List, []}
 use Prim.Native.Nat.{ℕ, zero, suc, _+_, _≤_, _<_}
 use native.Mathlib.Decide.{decLe}
 use native.Mathlib.Omega.{arith}
 use lib.Dec.{leb, leb→le, T}
-use lib.ListN.{length, getD, getElem?, length-map}
+use lib.ListN.{length, getD}
 use Rattle.status.specs.declared.StatusCode.the-variants.{«OUT_OF_TABLE», «TOO_LONG»}
 use Rattle.definitions.specs.Result.{Result, ok, err, at}
-use Rattle.definitions.specs.SignatureToken.{SignatureToken, Signature}
-use Rattle.definitions.specs.CompiledUnit as defs
 use Rattle.definitions.specs.Commands.{commandsOf}
-use Rattle.definitions.specs.Reading.{Read, read, stop, Reader, Placed}
-use Rattle.definitions.specs.Reader.{Decoded, readUnit, compiledUnit, unit, items, type, types, structHandle, functionHandle, functionInstantiation, structDefinition, structDefInstantiation, fieldHandle, fieldInstantiation, block, pairOf}
+use Rattle.definitions.specs.Reading.{Read, read, stop, Reader}
+use Rattle.definitions.specs.Reader.{Decoded, readUnit, compiledUnit, unit, type, types, structHandle, functionHandle, functionInstantiation, structDefinition, structDefInstantiation, fieldHandle, fieldInstantiation, block, pairOf}
 use Rattle.definitions.specs.Places.{RecordAt, TableAt, more}
 use Rattle.definitions.specs.Places.TableAt.{none as none′}
 use Rattle.unit.specs.declared.View.{View}
 use Rattle.unit.specs.declared.Table.{Table}
-use Rattle.unit.specs.Outline.{starts, placesOf}
+use Rattle.unit.specs.Outline.{placesOf}
 use Rattle.unit.specs.Views.{UnitRead, viewOf}
 use Rattle.unit.specs.Entries.{Has, segments, baseFrom, segment-at}
 use Rattle.unit.specs.Standing.{UnitStands, unit-stands}

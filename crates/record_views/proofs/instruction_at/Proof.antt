@@ -1,8 +1,6 @@
 -- `instruction_at`: the answer is the instruction that was read there; its operands go by how many bytes they take.
-use mathlib.Core.Path.{_≡_, refl, sym, ap, _∙_}
-use Prim.Native.Nat.{ℕ, _+_, _≤_}
+use mathlib.Core.Path.{refl, sym, ap, _∙_}
 use native.Mathlib.Omega.{arith}
-use lib.ListN.{length, getD}
 use Rattle.record_reader.specs.Bodies.{operandWidth}
 use Rattle.record_reader.specs.Apart.{numberOf}
 use Rattle.record_views.specs.Reread.{reread, is-one, is-two, is-ten, is-other}

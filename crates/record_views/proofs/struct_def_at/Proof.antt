@@ -1,6 +1,5 @@
 -- `struct_def_at`: the answer is the definition that was read there.
-use mathlib.Core.Path.{_≡_, refl}
-use native.Mathlib.Omega.{arith}
+use mathlib.Core.Path.{refl}
 use Rattle.record_views.specs.Reread.{def-native, def-declared, def-room}
 use borrow.Author.Needs.{needs}
 use Rattle.record_views.proofs.struct_def_at.Statement.{statement}

@@ -1,5 +1,5 @@
 -- `type_list`: whatever list was read at that place is where the answer says.
-use mathlib.Core.Path.{_≡_, refl}
+use mathlib.Core.Path.{refl}
 use native.Mathlib.Omega.{arith}
 use Rattle.record_views.specs.Reread.{list-read}
 use borrow.Author.Needs.{needs}

@@ -1,5 +1,4 @@
 -- `u64_at`: four u16 make up the u64.
-use mathlib.Core.Path.{_≡_}
 use native.Mathlib.Omega.{arith}
 use Rattle.record_views.specs.Reread.{four-u16}
 use borrow.Author.Needs.{needs}

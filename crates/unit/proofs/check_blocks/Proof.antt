@@ -1,15 +1,11 @@
 -- `check_blocks`: each block before the i-th lies within the code, and the first that does not is the one that is named.
-use mathlib.Core.Path.{_≡_, refl, sym, ap, _∙_}
-use Prim.Native.Nat.{ℕ, _+_, _-_}
+use mathlib.Core.Path.{refl}
+use Prim.Native.Nat.{_-_}
 use native.Mathlib.Omega.{arith}
 use borrow.Author.Needs.{needs}
 use Rattle.unit.proofs.Blocks.{Tested, block-here, tested-falls, tested-past, tested-more, tested-all}
 use Rattle.unit.proofs.check_blocks.Statement.{statement}
 use Rattle.unit.proofs.check_blocks.Tie as tie
-use Rattle.unit.proofs.check_blocks.Reads as reads
-use Rattle.unit.proofs.check_blocks.Lts as lts
-use Rattle.record_reader.proofs.u16_at.Reads as u16-at-reads
-use Rattle.unit.proofs.place_at.Reads as place-at-reads
 
 abbrev Inv-loop : tie.InvT-loop
 Inv-loop s at index base count code i₀ i = Tested s at index base count code i

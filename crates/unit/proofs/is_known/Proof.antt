@@ -1,16 +1,10 @@
 -- `is_known`: the commands that a head knows, one computed test.
-use Rattle.definitions.specs.Commands.{commandsOf, known}
 use Rattle.unit.specs.Filled.{headOf}
-use mathlib.Core.Bool.{true, false}
-use mathlib.Core.Path.{sym, _∙_}
 use native.Mathlib.Omega.{arith}
-use Rattle.definitions.specs.CompiledUnit.{Module, Script}
 use Rattle.unit.proofs.Known.{known-handles, known-last, unknown-below, unknown-above, known-definitions, unknown-definitions}
 use borrow.Author.Needs.{needs}
 use Rattle.unit.proofs.is_known.Statement.{statement}
 use Rattle.unit.proofs.is_known.Tie as tie
-use Rattle.unit.proofs.is_known.Reads as reads
-use Rattle.unit.proofs.is_known.Lts as lts
 
 -- src/lib.rt:35:29
 enum-told : tie.Need-enum-told

@@ -4,9 +4,6 @@ use Rattle.unit.proofs.Whole.{unit-refused, read-long, read-empty, read
 use borrow.Author.Needs.{needs}
 use Rattle.unit.proofs.read.Statement.{statement}
 use Rattle.unit.proofs.read.Tie as tie
-use Rattle.unit.proofs.read.Reads as reads
-use Rattle.unit.proofs.read.Lts as lts
-use Rattle.unit.proofs.read_under.Reads as read-under-reads
 
 pub read-spec : {M : Type 1} → statement M
 read-spec =

@@ -12,11 +12,6 @@ use Rattle.unit.proofs.TableLoop.{got-next, got-refused}
 use Rattle.unit.proofs.CodeLoop.{InCode, u16-next, u16-short, u16-cut, code-start, code-more, code-refused, code-stops, code-stops-in, code-answers-refused, code-answers-read}
 use Rattle.unit.proofs.read_code.Statement.{statement}
 use Rattle.unit.proofs.read_code.Tie as tie
-use Rattle.unit.proofs.read_code.Reads as reads
-use Rattle.unit.proofs.read_code.Lts as lts
-use Rattle.record_reader.proofs.read_instruction.Reads as read-instruction-reads
-use Rattle.record_reader.proofs.u16_at.Reads as u16-at-reads
-use Rattle.unit.proofs.records.Reads as records-reads
 
 abbrev Inv-loop : tie.InvT-loop
 Inv-loop s from index₀ base count at₀ n₀ index at n = (h : defs.Head) → InCode (instruction (commandsOf h)) s from base count index₀ index at n

@@ -5,9 +5,6 @@ use Rattle.unit.proofs.Due.{due-short, due-unknown, due-other, due-here
 use borrow.Author.Needs.{needs}
 use Rattle.unit.proofs.read_due.Statement.{statement}
 use Rattle.unit.proofs.read_due.Tie as tie
-use Rattle.unit.proofs.read_due.Reads as reads
-use Rattle.unit.proofs.read_due.Lts as lts
-use Rattle.unit.proofs.is_known.Reads as is-known-reads
 
 pub read-due-spec : {M : Type 1} → statement M
 read-due-spec =

@@ -1,14 +1,9 @@
 -- `read_four`: four tables in turn, each filled behind the last.
-use mathlib.Core.Path.{_≡_, refl, sym, ap, _∙_}
 use native.Mathlib.Omega.{arith}
 use Rattle.unit.proofs.Filling.{room-after, got-table, refused-table, table-end, four-refused, four-refused-1, four-refused-2, four-refused-3, four-refused-4, four-answers}
 use borrow.Author.Needs.{needs}
 use Rattle.unit.proofs.read_four.Statement.{statement}
 use Rattle.unit.proofs.read_four.Tie as tie
-use Rattle.unit.proofs.read_four.Reads as reads
-use Rattle.unit.proofs.read_four.Lts as lts
-use Rattle.unit.proofs.Table.end.Reads as end-reads
-use Rattle.unit.proofs.read_table.Reads as read-table-reads
 
 pub read-four-spec : {M : Type 1} → statement M
 read-four-spec =

@@ -9,14 +9,6 @@ use Rattle.unit.proofs.Listed.{listing-refused, listing-refused-1, list
 use borrow.Author.Needs.{needs}
 use Rattle.unit.proofs.read_listing.Statement.{statement}
 use Rattle.unit.proofs.read_listing.Tie as tie
-use Rattle.unit.proofs.read_listing.Reads as reads
-use Rattle.unit.proofs.read_listing.Lts as lts
-use Rattle.unit.proofs.Table.end.Reads as end-reads
-use Rattle.unit.proofs.Table.size.Reads as size-reads
-use Rattle.unit.proofs.check_blocks.Reads as check-blocks-reads
-use Rattle.unit.proofs.read_code.Reads as read-code-reads
-use Rattle.unit.proofs.read_due.Reads as read-due-reads
-use Rattle.unit.proofs.read_table.Reads as read-table-reads
 
 pub read-listing-spec : {M : Type 1} → statement M
 read-listing-spec =

@@ -13,11 +13,6 @@ use Rattle.record_reader.specs.Ends.{body-reaches}
 use Rattle.unit.proofs.TableLoop.{InTable, got-next, got-refused, table-start, table-more, table-refused, answers-read, answers-refused, filled-none, places-unknown, places-refused, places-read, table-past, table-other, starts-size, table-filled}
 use Rattle.unit.proofs.read_table.Statement.{statement}
 use Rattle.unit.proofs.read_table.Tie as tie
-use Rattle.unit.proofs.read_table.Reads as reads
-use Rattle.unit.proofs.read_table.Lts as lts
-use Rattle.record_reader.proofs.read_body.Reads as read-body-reads
-use Rattle.unit.proofs.is_known.Reads as is-known-reads
-use Rattle.unit.proofs.records.Reads as records-reads
 
 abbrev Inv-loop : tie.InvT-loop
 Inv-loop s from command index₀ base at₀ n₀ index at n = (h : defs.Head) → InTable (bodyOf (commandsOf h) command) s command from base index₀ index at n

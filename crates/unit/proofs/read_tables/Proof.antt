@@ -4,11 +4,6 @@ use Rattle.unit.proofs.Filling.{room-after, got-table, refused-table, g
 use borrow.Author.Needs.{needs}
 use Rattle.unit.proofs.read_tables.Statement.{statement}
 use Rattle.unit.proofs.read_tables.Tie as tie
-use Rattle.unit.proofs.read_tables.Reads as reads
-use Rattle.unit.proofs.read_tables.Lts as lts
-use Rattle.unit.proofs.Table.end.Reads as end-reads
-use Rattle.unit.proofs.read_four.Reads as read-four-reads
-use Rattle.unit.proofs.read_table.Reads as read-table-reads
 
 pub read-tables-spec : {M : Type 1} → statement M
 read-tables-spec =

@@ -7,15 +7,6 @@ use Rattle.unit.proofs.Whole.{got-tables, refused-tables, got-listing, 
 use borrow.Author.Needs.{needs}
 use Rattle.unit.proofs.read_under.Statement.{statement}
 use Rattle.unit.proofs.read_under.Tie as tie
-use Rattle.unit.proofs.read_under.Reads as reads
-use Rattle.unit.proofs.read_under.Lts as lts
-use Rattle.record_reader.proofs.read_function.Reads as read-function-reads
-use Rattle.unit.proofs.Table.end.Reads as end-reads
-use Rattle.unit.proofs.Table.size.Reads as size-reads
-use Rattle.unit.proofs.read_due.Reads as read-due-reads
-use Rattle.unit.proofs.read_listing.Reads as read-listing-reads
-use Rattle.unit.proofs.read_tables.Reads as read-tables-reads
-use Rattle.unit.proofs.view_of.Reads as view-of-reads
 
 pub read-under-spec : {M : Type 1} → statement M
 read-under-spec =

@@ -1,5 +1,5 @@
 -- `abilities`: the handles are the front of the index, and the constraints a part of the function's record.
-use mathlib.Core.Path.{_≡_, refl, sym, ap, _∙_}
+use mathlib.Core.Path.{sym}
 use native.Mathlib.Omega.{arith}
 use lib.Seq.{length-take-le}
 use Rattle.unit_views.specs.Tables.{unit-short}

@@ -1,5 +1,4 @@
 -- `block_at`: the two numbers behind the record's command, which the reader found in order.
-use mathlib.Core.Path.{_≡_, refl, sym, ap, _∙_}
 use native.Mathlib.Omega.{arith}
 use Rattle.unit_views.specs.Tables.{table-fits, blocks-in}
 use Rattle.unit_views.specs.Lookups.{block-room, block-here}

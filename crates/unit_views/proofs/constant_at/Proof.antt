@@ -1,5 +1,4 @@
 -- `constant_at`: the type that stands behind the record's command.
-use mathlib.Core.Path.{_≡_, refl, sym, ap, _∙_}
 use native.Mathlib.Omega.{arith}
 use Rattle.unit_views.specs.Tables.{table-fits, constants-in}
 use Rattle.unit_views.specs.Lookups.{constant-past, constant-here}

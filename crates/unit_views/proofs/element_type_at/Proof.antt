@@ -1,5 +1,4 @@
 -- `element_type_at`: the first type of the signature.
-use mathlib.Core.Path.{_≡_, refl, sym, ap, _∙_}
 use native.Mathlib.Omega.{arith}
 use Rattle.unit_views.specs.Lookups.{element-refused, element-none, element-here}
 use borrow.Author.Needs.{needs}

@@ -1,5 +1,4 @@
 -- `instruction_at`: the instruction that stands at its place.
-use mathlib.Core.Path.{_≡_, refl, sym, ap, _∙_}
 use Rattle.unit_views.specs.Lookups.{code-fits, instruction-here, instruction-is}
 use borrow.Author.Needs.{needs}
 use Rattle.unit_views.proofs.instruction_at.Statement.{statement}

@@ -1,5 +1,4 @@
 -- `local_at`: the type at the local's place.
-use mathlib.Core.Path.{_≡_, refl, sym, ap, _∙_}
 use native.Mathlib.Omega.{arith}
 use Rattle.unit_views.specs.Lookups.{local-past, local-here}
 use borrow.Author.Needs.{needs}

@@ -1,5 +1,5 @@
 -- `pair_at`: the two numbers that stand behind the record's command.
-use mathlib.Core.Path.{_≡_, refl, sym, ap, _∙_}
+use mathlib.Core.Path.{refl}
 use native.Mathlib.Omega.{arith}
 use borrow.Author.Needs.{needs}
 use Rattle.unit_views.proofs.pair_at.Statement.{statement}

@@ -1,5 +1,5 @@
 -- `place`: the entry of the index.
-use mathlib.Core.Path.{_≡_, refl, sym, ap, _∙_}
+use mathlib.Core.Path.{refl}
 use native.Mathlib.Omega.{arith}
 use borrow.Author.Needs.{needs}
 use Rattle.unit_views.proofs.place.Statement.{statement}

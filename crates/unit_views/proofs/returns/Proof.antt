@@ -1,5 +1,5 @@
 -- `returns`: the list of the signature that the function's record names.
-use mathlib.Core.Path.{_≡_, refl, sym, ap, _∙_}
+use mathlib.Core.Path.{_∙_}
 use native.Mathlib.Omega.{arith}
 use Rattle.unit_views.specs.Tables.{table-fits, signatures-in, unit-short}
 use Rattle.unit_views.specs.Lookups.{return-at, return-below, return-here, signature-room, signature-here}

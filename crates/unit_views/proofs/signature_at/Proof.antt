@@ -1,5 +1,4 @@
 -- `signature_at`: the list that stands behind the record's command.
-use mathlib.Core.Path.{_≡_, refl, sym, ap, _∙_}
 use native.Mathlib.Omega.{arith}
 use Rattle.unit_views.specs.Tables.{table-fits, signatures-in}
 use Rattle.unit_views.specs.Lookups.{signature-past, signature-room, signature-here}

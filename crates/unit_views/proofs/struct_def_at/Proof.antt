@@ -1,5 +1,4 @@
 -- `struct_def_at`: the definition that stands at the record's place; a script has none.
-use mathlib.Core.Path.{_≡_, refl, sym, ap, _∙_}
 use native.Mathlib.Omega.{arith}
 use Rattle.unit_views.specs.Tables.{table-fits, structDefs-in}
 use Rattle.unit_views.specs.Lookups.{def-script, def-past, def-at, def-here}

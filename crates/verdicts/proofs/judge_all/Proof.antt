@@ -1,7 +1,7 @@
 -- `judge_all`: each case takes some bytes and no more than there are, so the walk ends within the input.
 use Prim.Native.Nat.{_-_, _≤_}
 use native.Mathlib.Omega.{arith}
-use lib.ListN.{length, length-drop}
+use lib.ListN.{length}
 use borrow.Author.Needs.{needs}
 use Rattle.verdicts.proofs.judge_all.Statement.{statement}
 use Rattle.verdicts.proofs.judge_all.Tie as tie

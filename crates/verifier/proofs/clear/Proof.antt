@@ -1,6 +1,6 @@
 -- The loop's invariant: the first i bytes are 0, the others are as they were, and so is the length. The measure is how many are left.
 use mathlib.Core.Path.{_≡_, refl, ap, _∙_}
-use mathlib.Core.List.{List, [], _++_}
+use mathlib.Core.List.{List, _++_}
 use Prim.Native.Nat.{ℕ, _-_, _≤_}
 use native.Mathlib.Omega.{arith}
 use lib.ListN.{length, set, drop, replicate, length-set}
