@@ -10,10 +10,12 @@ use Rattle.status.specs.declared.StatusCode.{StatusCode}
 use Rattle.status.specs.declared.StatusCode.the-variants.{«OUT_OF_TABLE»}
 use Rattle.definitions.specs.Result.{Result, ok, err, _>>?_, at}
 use Rattle.definitions.specs.AbilitySet.{PRIMITIVES, SIGNER, VECTOR, REFERENCES, polymorphicAbilities}
-use Rattle.definitions.specs.SignatureToken.{SignatureToken}
+use Rattle.definitions.specs.SignatureToken.{SignatureToken, SignatureTokens, []ᵗ, _∷ᵗ_, count, Struct as StructOf, StructInstantiation as InstantiationOf}
 use Rattle.definitions.specs.CompiledUnit.{StructHandle}
+use Rattle.definitions.specs.Substitution.{materializeType}
 use Rattle.definitions.specs.Abilities.{isPhantomOf, abilitiesIn, abilitiesOfAll}
 use Rattle.definitions.specs.Places.{TypeAt, TypesAt}
+use Rattle.theorems.specs.Bytes.{listOf, arguments-listOf}
 use Rattle.file_format.specs.AbilitySet.{setOf, isPhantomByte, abilitiesAnswer}
 use Rattle.file_format.specs.declared.StructHandleIndex.{StructHandleIndex}
 use Rattle.file_format.specs.declared.Abilities.{Abilities}
@@ -22,7 +24,8 @@ use Rattle.signature_token.specs.declared.Token.{Token}
 use Rattle.signature_token.specs.declared.Token.the-variants.{Leaf, Wrapped, Struct, StructInstantiation, TypeParameter}
 use Rattle.signature_token.specs.declared.Wrapper.the-variants as wrapper
 use Rattle.signature_token.specs.Token.{TokenAt}
-use Rattle.signature_token.specs.TokenLaws.{IsLeaf, is-bool, is-u8, is-u64, is-u128, is-address, is-signer, leaf-at, wrapped-at, struct-at, instantiation-at, parameter-at}
+use Rattle.signature_token.specs.TokenLaws.{IsLeaf, is-bool, is-u8, is-u64, is-u128, is-address, is-signer, leaf-at, wrapped-at, struct-at, instantiation-at, parameter-at, none-is}
+use Rattle.signature_token.specs.Ends.{typeMeasure, listMeasure, type-room}
 use Rattle.binary_views.specs.declared.Place.the-variants.{At, OutOfTable}
 use Rattle.binary_views.specs.declared.Gathered.{Gathered}
 use Rattle.binary_views.specs.declared.Gathered.the-variants as gathered
@@ -60,10 +63,22 @@ pub record InstantiatedAt (unit : List ℕ) (p : ℕ) (sets : List ℕ) (r : Abi
 pub record AbilitiesAt (ty : List ℕ) (place : ℕ) (unit handles constraints : List ℕ) (r : Abilities) : Type 0 where
   pub answers : (p : TypeAt ty place) (h : HandlesAt unit handles) → r ≡ abilitiesAnswer (abilitiesIn (h .structHandles) constraints (p .type))
 
+-- r is the answer for the struct with the i-th handle and the n arguments at `place`
+pub record InstantiationAt (i : ℕ) (ty : List ℕ) (place n : ℕ) (unit handles constraints : List ℕ) (r : Abilities) : Type 0 where
+  pub answers : (q : TypesAt ty place n) (h : HandlesAt unit handles) → r ≡ abilitiesAnswer (abilitiesIn (h .structHandles) constraints (InstantiationOf i (q .types)))
+
+-- r is the answer for what `materialize_type` makes of them
+pub record MaterializedAbilities (i : ℕ) (ty : List ℕ) (place n : ℕ) (unit handles constraints : List ℕ) (r : Abilities) : Type 0 where
+  pub answers : (q : TypesAt ty place n) (h : HandlesAt unit handles) → r ≡ abilitiesAnswer (abilitiesIn (h .structHandles) constraints (materializeType i (listOf (q .types))))
+
 -- r is the answer for the n types at `place`, with their sets at the front of `sets`
 pub record GatheredAt (ty : List ℕ) (place n : ℕ) (unit handles constraints sets : List ℕ) (r : Gathered) : Type 0 where
   pub room : n ≤ length sets
   pub answers : (q : TypesAt ty place n) (h : HandlesAt unit handles) → gatheredOf r (take n sets) ≡ abilitiesOfAll (h .structHandles) constraints (q .types)
+
+-- a struct's walk: that along its arguments comes next
+abbrev pub structMeasure : List ℕ → ℕ → ℕ → ℕ
+structMeasure s at n = listMeasure s at n + 1
 
 -- ── struct handles ──
 
@@ -148,33 +163,58 @@ module _ {ty : List ℕ} {place : ℕ} {unit handles constraints : List ℕ} {to
 
 -- ── an instantiated struct ──
 
--- the arguments' sets have room in an array of 255
-pub arguments-fit :
-    {ty : List ℕ} {place : ℕ} {token : Token} → TokenAt ty place token → {k : StructHandleIndex} {n x : ℕ} → token ≡ StructInstantiation k n x →
-    TypeAt ty place → getD ty (place + 3) 0 < 256 → n ≤ 255
-arguments-fit w e p l = omega (arith, instantiation-at w p e .byte)
+module _ {ty : List ℕ} {place : ℕ} {token : Token} (w : TokenAt ty place token) (p : TypeAt ty place) {k : StructHandleIndex} {n x : ℕ} (e : token ≡ StructInstantiation k n x) (b : getD ty (place + 3) 0 < 256) where
+  -- the arguments' sets have room in an array of 255
+  pub arguments-fit : n ≤ 255
+  arguments-fit = omega (arith, instantiation-at w p e .byte)
 
-module _ {ty : List ℕ} {place : ℕ} {unit handles constraints : List ℕ} {token : Token} (w : TokenAt ty place token) {k : StructHandleIndex} {n x : ℕ} (e : token ≡ StructInstantiation k n x) where
-  pub instantiation-past : PlaceAt handles (k .0) OutOfTable → AbilitiesAt ty place unit handles constraints (Refused «OUT_OF_TABLE»)
+  -- a struct's walk is below the type's, and above its arguments'
+  pub instantiation-falls : structMeasure ty x n < typeMeasure ty place
+  instantiation-falls = let i = instantiation-at w p e in omega (arith, i .byte, i .place, i .long, type-room p)
+
+-- the type is the struct with the arguments at x
+pub instantiation-type :
+    {ty : List ℕ} {place : ℕ} {unit handles constraints : List ℕ} {token : Token} → TokenAt ty place token → {k : StructHandleIndex} {n x : ℕ} →
+    token ≡ StructInstantiation k n x → {r : Abilities} → InstantiationAt (k .0) ty x n unit handles constraints r → AbilitiesAt ty place unit handles constraints r
+instantiation-type w e f = record {
+  answers = λ p h. let i = instantiation-at w p e in rw (i .is) (f .answers (record { types = i .types; counted = i .counted; stands = i .stands }) h);
+}
+
+module _ {i : ℕ} {ty : List ℕ} {place n : ℕ} {unit handles constraints : List ℕ} where
+  pub instantiation-past : PlaceAt handles i OutOfTable → InstantiationAt i ty place n unit handles constraints (Refused «OUT_OF_TABLE»)
   unfolding abilitiesIn _>>?_
-  instantiation-past f = record { answers = λ p h. rw (instantiation-at w p e .is, entry-past (h .stand) f) }
+  instantiation-past f = record { answers = λ q h. rw (entry-past (h .stand) f) }
 
-  module _ {q : ℕ} {sets : List ℕ} (f : PlaceAt handles (k .0) (At q)) where
-    pub argument-refused :
-        {z : StatusCode} → GatheredAt ty x n unit handles constraints sets (gathered.Refused z) → AbilitiesAt ty place unit handles constraints (Refused z)
+  module _ {p : ℕ} {sets : List ℕ} (f : PlaceAt handles i (At p)) where
+    pub argument-refused : {z : StatusCode} → GatheredAt ty place n unit handles constraints sets (gathered.Refused z) → InstantiationAt i ty place n unit handles constraints (Refused z)
     unfolding abilitiesIn _>>?_
-    argument-refused g = record {
-      answers = λ p h.
-          let i = instantiation-at w p e in
-          rw (i .is, entry-at (h .stand) f .is, ← g .answers (record { types = i .types; counted = i .counted; stands = i .stands }) h);
-    }
+    argument-refused g = record { answers = λ q h. rw (entry-at (h .stand) f .is, ← g .answers q h) }
 
     pub instantiation-abilities :
-        {r : Abilities} → GatheredAt ty x n unit handles constraints sets gathered.All → InstantiatedAt unit q (take n sets) r → AbilitiesAt ty place unit handles constraints r
+        {r : Abilities} → GatheredAt ty place n unit handles constraints sets gathered.All → InstantiatedAt unit p (take n sets) r →
+        InstantiationAt i ty place n unit handles constraints r
     unfolding abilitiesIn _>>?_
     instantiation-abilities g j = record {
-      answers = λ p h.
-          let i = instantiation-at w p e in
-          let a = entry-at (h .stand) f in
-          rw (i .is, a .is, ← g .answers (record { types = i .types; counted = i .counted; stands = i .stands }) h) (j .answers (record { handle = a .item; stands = a .stands }));
+      answers = λ q h. let a = entry-at (h .stand) f in rw (a .is, ← g .answers q h) (j .answers (record { handle = a .item; stands = a .stands }));
     }
+
+-- ── what is made of a handle and arguments ──
+
+-- no argument: a plain struct
+made-plain : (i : ℕ) (ts : SignatureTokens) → count ts ≡ 0 → materializeType i (listOf ts) ≡ StructOf i
+unfolding materializeType listOf
+made-plain i ts e = rw (none-is ts e)
+
+-- some: an instantiation
+made-generic : (i : ℕ) (ts : SignatureTokens) → (count ts ≡ 0 → ⊥) → materializeType i (listOf ts) ≡ InstantiationOf i ts
+unfolding materializeType listOf count
+made-generic i []ᵗ f = absurd (f refl)
+made-generic i (t ∷ᵗ ts) f = ap (InstantiationOf i) (arguments-listOf (t ∷ᵗ ts))
+
+module _ {i : ℕ} {ty : List ℕ} {place n : ℕ} {unit handles constraints : List ℕ} {r : Abilities} where
+  pub plain-made : n ≡ 0 → StructAbilitiesAt unit handles i r → MaterializedAbilities i ty place n unit handles constraints r
+  unfolding abilitiesIn
+  plain-made e f = record { answers = λ q h. rw (made-plain i (q .types) (q .counted ∙ e)) (f .answers h) }
+
+  pub generic-made : (n ≡ 0 → ⊥) → InstantiationAt i ty place n unit handles constraints r → MaterializedAbilities i ty place n unit handles constraints r
+  generic-made l f = record { answers = λ q h. rw (made-generic i (q .types) λ z. l (sym (q .counted) ∙ z)) (f .answers q h) }

@@ -14,7 +14,7 @@ ghost use Rattle.definitions.specs.Places.{TypeAt, TypesAt};
 ghost use Rattle.file_format.specs.AbilitySet.{setOf, abilitiesAnswer};
 ghost use Rattle.binary_views.specs.Tables.{PlaceAt};
 ghost use Rattle.binary_views.specs.Handles.{HandleAt, HandlesAt};
-ghost use Rattle.binary_views.specs.Abilities.{leafSet, ofVector, StructAbilitiesAt, InstantiatedAt, AbilitiesAt, GatheredAt};
+ghost use Rattle.binary_views.specs.Abilities.{leafSet, ofVector, StructAbilitiesAt, InstantiatedAt, AbilitiesAt, InstantiationAt, MaterializedAbilities, GatheredAt};
 
 // Where a record stands, by the place of its command; or its index is past the table.
 pub enum Place {
@@ -129,18 +129,60 @@ pub fn abilities(
             Wrapper::MutableReference => Abilities::Found(AbilitySet::REFERENCES),
         },
         Token::Struct(h) => struct_abilities(unit, handles, h),
-        Token::StructInstantiation(h, n, first) => match struct_handle_at(handles, h) {
-            Place::At(p) => {
-                let mut sets = [0u8; 255];
-                match gather(ty, first, n, unit, handles, constraints, &mut sets) {
-                    Gathered::All => instantiated_abilities(unit, p, &sets[..n]),
-                    Gathered::Refused(status) => Abilities::Refused(status),
-                }
-            }
-            Place::OutOfTable => Abilities::Refused(StatusCode::OUT_OF_TABLE),
-        },
+        Token::StructInstantiation(h, n, first) => {
+            instantiation_abilities(h, ty, first, n, unit, handles, constraints)
+        }
         Token::TypeParameter(i) => type_parameter_abilities(constraints, i),
     }
+}
+
+// The abilities of the struct with the n arguments at `first` of ty: its handle is looked up, then theirs, and only then are the lengths
+// compared.
+fn instantiation_abilities(
+    h: StructHandleIndex,
+    ty: &[u8],
+    first: usize,
+    n: usize,
+    unit: &[u8],
+    handles: &[u16],
+    constraints: &[u8],
+) -> Abilities
+    requires { ⌜ TypesAt (now ty) first n ⌝ }
+    requires { ⌜ HandlesAt (now unit) (now handles) ⌝ }
+    requires { ⌜ n ≤ 255 ⌝ }
+    ensures { λ r. ⌜ InstantiationAt (h .0) (now (ty .entry)) first n (now (unit .entry)) (now (handles .entry)) (now (constraints .entry)) r ⌝ }
+{
+    match struct_handle_at(handles, h) {
+        Place::At(p) => {
+            let mut sets = [0u8; 255];
+            match gather(ty, first, n, unit, handles, constraints, &mut sets) {
+                Gathered::All => instantiated_abilities(unit, p, &sets[..n]),
+                Gathered::Refused(status) => Abilities::Refused(status),
+            }
+        }
+        Place::OutOfTable => Abilities::Refused(StatusCode::OUT_OF_TABLE),
+    }
+}
+
+// The abilities of what `materialize_type` makes of a handle and the n arguments at `first` of ty.
+pub fn materialized_abilities(
+    h: StructHandleIndex,
+    ty: &[u8],
+    first: usize,
+    n: usize,
+    unit: &[u8],
+    handles: &[u16],
+    constraints: &[u8],
+) -> Abilities
+    requires { ⌜ TypesAt (now ty) first n ⌝ }
+    requires { ⌜ HandlesAt (now unit) (now handles) ⌝ }
+    requires { ⌜ n ≤ 255 ⌝ }
+    ensures { λ r. ⌜ MaterializedAbilities (h .0) (now (ty .entry)) first n (now (unit .entry)) (now (handles .entry)) (now (constraints .entry)) r ⌝ }
+{
+    if n == 0 {
+        return struct_abilities(unit, handles, h);
+    }
+    instantiation_abilities(h, ty, first, n, unit, handles, constraints)
 }
 
 // The abilities of the n types at `at`, left to right, to the front of `sets`; the first refusal ends the walk.

@@ -5,7 +5,7 @@ use mathlib.Core.List.{List, _∷_}
 use Prim.Native.Nat.{ℕ, _-_, _≤_}
 use native.Mathlib.Omega.{arith}
 use lib.ListN.{length, take, drop}
-use Rattle.definitions.specs.SignatureToken.{SignatureToken, encode}
+use Rattle.definitions.specs.SignatureToken.{encode}
 use Rattle.definitions.specs.Substitution.{referenceTo}
 use Rattle.definitions.specs.Machine.{push}
 use Rattle.definitions.specs.Places.{TypeAt, EndOfType}

@@ -1,11 +1,11 @@
 // The steps of type_safety.rs that ask a type's abilities, or name a local or a constant of the unit: Pop, ReadRef, WriteRef, Eq, Neq,
 // LdConst, CopyLoc, MoveLoc, StLoc and the borrows of a local. Each finds out whether it succeeds before it writes, and pushes last.
-use file_format::Abilities;
 use file_format::Ability;
 use file_format::ConstantPoolIndex;
 use file_format::LocalIndex;
 use signature_token::Referent;
 use status::StatusCode;
+use step_views::Checked;
 use type_stack::Stepped;
 use type_stack::Top;
 use type_stack::TopTwo;
@@ -19,9 +19,8 @@ ghost use Rattle.definitions.specs.TypeSafety as step;
 ghost use Rattle.type_stack.specs.Held.{Stacked};
 ghost use Rattle.type_stack.specs.Stepping.{StepsTo};
 ghost use Rattle.unit.specs.Views.{UnitRead};
-ghost use Rattle.unit_views.specs.Answers.{LocalPlaces};
+ghost use Rattle.locals.specs.Locals.{LocalPlaces};
 ghost use Rattle.local_steps.specs.Inner.{InnerAt};
-ghost use Rattle.local_steps.specs.Checks.{AbilityIs};
 ghost use Rattle.local_steps.specs.Pushes.{PushesType, PushesReference};
 
 // A type as a reference of either kind: where what it refers to stands, or that it is none.
@@ -39,39 +38,6 @@ pub fn inner_at(s: &[u8], at: usize) -> EitherReference
         Referent::Reference(inner) => EitherReference::Inner(inner),
         Referent::MutableReference(inner) => EitherReference::Inner(inner),
         Referent::Value => EitherReference::Value,
-    }
-}
-
-// That a type has the ability asked of it, or the status of a refusal.
-enum Checked {
-    Passed,
-    Refused(StatusCode),
-}
-
-// Asks `verifier.abilities(&type)?` for an ability, of the type at `at` of ty, which is the unit or the area. A type that lacks it is
-// refused with the status given.
-fn check_ability(
-    ty: &[u8],
-    at: usize,
-    s: &[u8],
-    index: &[u16],
-    view: View,
-    ability: Ability,
-    status: StatusCode,
-) -> Checked
-    requires { ⌜ TypeAt (now ty) at ⌝ }
-    requires { ⌜ UnitRead (now s) (now index) view ⌝ }
-    ensures { λ r. ⌜ ((p : UnitRead (now (s .entry)) (now (index .entry)) view) (q : TypeAt (now (ty .entry)) at) → AbilityIs (compiledUnit (p .decoded)) (q .type) ability status r) ⌝ }
-{
-    match unit_views::abilities(ty, at, s, index, view) {
-        Abilities::Refused(why) => Checked::Refused(why),
-        Abilities::Found(set) => {
-            if set.has_ability(ability) {
-                Checked::Passed
-            } else {
-                Checked::Refused(status)
-            }
-        }
     }
 }
 
@@ -109,7 +75,7 @@ pub fn pop_step(area: &[u8], weight: usize, s: &[u8], index: &[u16], view: View)
     let Top::Entry { start, len: _ } = top else {
         return Stepped::Refused(StatusCode::EMPTY_STACK);
     };
-    match check_ability(
+    match step_views::check_ability(
         area,
         start,
         s,
@@ -130,19 +96,20 @@ pub fn st_loc(
     s: &[u8],
     index: &[u16],
     view: View,
-    places: &[u16],
+    parameters: &[u16],
+    locals: &[u16],
     idx: LocalIndex,
 ) -> Stepped
     requires { ⌜ Stacked (now area) weight ⌝ }
     requires { ⌜ UnitRead (now s) (now index) view ⌝ }
-    requires { ⌜ LocalPlaces (now s) (now index) view (now places) ⌝ }
+    requires { ⌜ LocalPlaces (now s) (now index) view (now parameters) (now locals) ⌝ }
     ensures { λ r. ⌜ ((p : UnitRead (now (s .entry)) (now (index .entry)) view) → StepsTo (step.stLoc (compiledUnit (p .decoded)) (idx .0)) (now (area .entry)) weight (now (area .entry)) r) ⌝ }
 {
     let top = type_stack::peek(area, weight);
     let Top::Entry { start, len } = top else {
         return Stepped::Refused(StatusCode::EMPTY_STACK);
     };
-    match unit_views::local_at(s, index, view, places, idx) {
+    match locals::local_at(parameters, locals, idx) {
         TypeResult::Refused(status) => Stepped::Refused(status),
         TypeResult::Found(local) => {
             if signature_token::same_type(area, start, len, s, local) {
@@ -180,17 +147,18 @@ pub fn copy_loc(
     s: &[u8],
     index: &[u16],
     view: View,
-    places: &[u16],
+    parameters: &[u16],
+    locals: &[u16],
     idx: LocalIndex,
 ) -> Stepped
     requires { ⌜ Stacked (now area) weight ⌝ }
     requires { ⌜ UnitRead (now s) (now index) view ⌝ }
-    requires { ⌜ LocalPlaces (now s) (now index) view (now places) ⌝ }
+    requires { ⌜ LocalPlaces (now s) (now index) view (now parameters) (now locals) ⌝ }
     ensures { λ r. ⌜ ((p : UnitRead (now (s .entry)) (now (index .entry)) view) → StepsTo (step.copyLoc (compiledUnit (p .decoded)) (idx .0)) (now (area .entry)) weight (now (area .exit)) r) ⌝ }
 {
-    match unit_views::local_at(s, index, view, places, idx) {
+    match locals::local_at(parameters, locals, idx) {
         TypeResult::Refused(status) => Stepped::Refused(status),
-        TypeResult::Found(local) => match check_ability(
+        TypeResult::Found(local) => match step_views::check_ability(
             s,
             local,
             s,
@@ -212,15 +180,16 @@ pub fn move_loc(
     s: &[u8],
     index: &[u16],
     view: View,
-    places: &[u16],
+    parameters: &[u16],
+    locals: &[u16],
     idx: LocalIndex,
 ) -> Stepped
     requires { ⌜ Stacked (now area) weight ⌝ }
     requires { ⌜ UnitRead (now s) (now index) view ⌝ }
-    requires { ⌜ LocalPlaces (now s) (now index) view (now places) ⌝ }
+    requires { ⌜ LocalPlaces (now s) (now index) view (now parameters) (now locals) ⌝ }
     ensures { λ r. ⌜ ((p : UnitRead (now (s .entry)) (now (index .entry)) view) → StepsTo (step.moveLoc (compiledUnit (p .decoded)) (idx .0)) (now (area .entry)) weight (now (area .exit)) r) ⌝ }
 {
-    match unit_views::local_at(s, index, view, places, idx) {
+    match locals::local_at(parameters, locals, idx) {
         TypeResult::Refused(status) => Stepped::Refused(status),
         TypeResult::Found(local) => push_type(area, weight, s, local),
     }
@@ -233,16 +202,17 @@ pub fn borrow_loc(
     s: &[u8],
     index: &[u16],
     view: View,
-    places: &[u16],
+    parameters: &[u16],
+    locals: &[u16],
     mutable: bool,
     idx: LocalIndex,
 ) -> Stepped
     requires { ⌜ Stacked (now area) weight ⌝ }
     requires { ⌜ UnitRead (now s) (now index) view ⌝ }
-    requires { ⌜ LocalPlaces (now s) (now index) view (now places) ⌝ }
+    requires { ⌜ LocalPlaces (now s) (now index) view (now parameters) (now locals) ⌝ }
     ensures { λ r. ⌜ ((p : UnitRead (now (s .entry)) (now (index .entry)) view) → StepsTo (step.borrowLoc (compiledUnit (p .decoded)) mutable (idx .0)) (now (area .entry)) weight (now (area .exit)) r) ⌝ }
 {
-    match unit_views::local_at(s, index, view, places, idx) {
+    match locals::local_at(parameters, locals, idx) {
         TypeResult::Refused(status) => Stepped::Refused(status),
         TypeResult::Found(local) => match inner_at(s, local) {
             EitherReference::Inner(_) => Stepped::Refused(StatusCode::BORROWLOC_REFERENCE_ERROR),
@@ -265,7 +235,7 @@ pub fn read_ref(area: &mut [u8], weight: usize, s: &[u8], index: &[u16], view: V
     let EitherReference::Inner(inner) = operand else {
         return Stepped::Refused(StatusCode::READREF_TYPE_MISMATCH_ERROR);
     };
-    match check_ability(
+    match step_views::check_ability(
         area,
         inner,
         s,
@@ -299,7 +269,7 @@ pub fn write_ref(area: &[u8], weight: usize, s: &[u8], index: &[u16], view: View
     let Referent::MutableReference(inner) = reference else {
         return Stepped::Refused(StatusCode::WRITEREF_NO_MUTABLE_REFERENCE_ERROR);
     };
-    match check_ability(
+    match step_views::check_ability(
         area,
         inner,
         s,
@@ -335,7 +305,7 @@ pub fn equality(area: &mut [u8], weight: usize, s: &[u8], index: &[u16], view: V
     else {
         return Stepped::Refused(StatusCode::EMPTY_STACK);
     };
-    match check_ability(
+    match step_views::check_ability(
         area,
         start,
         s,

@@ -223,6 +223,23 @@ module _ {a : List ℕ} {x l : ℕ} {t : SignatureToken} {r : Referent} (k : Ref
       go (as-mutable u f i) = absurd (not o (k (operand h) ∙ f))
       go (as-value f i j) = j
 
+-- a type that stands somewhere, as the laws of references ask for it
+pub standing : {a : List ℕ} {x : ℕ} (p : TypeAt a x) → Here a x (length (encode (p .type))) (p .type)
+standing p = record { at = p .stands; long = refl }
+
+module _ {a : List ℕ} {x : ℕ} {r : Referent} (k : ReferentAt a x r) where
+  pub refers-to : {y : ℕ} → r ≡ Reference y → (p : TypeAt a x) → Refers false a x (length (encode (p .type))) (p .type) y
+  refers-to e p = refers k (standing p) e
+
+  pub refers-mutably-to : {y : ℕ} → r ≡ MutableReference y → (p : TypeAt a x) → Refers true a x (length (encode (p .type))) (p .type) y
+  refers-mutably-to e p = refers-mutably k (standing p) e
+
+  pub reference-type : {y : ℕ} → r ≡ Reference y → TypeAt a x → TypeAt a y
+  reference-type e p = referent (refers-to e p)
+
+  pub mutable-type : {y : ℕ} → r ≡ MutableReference y → TypeAt a x → TypeAt a y
+  mutable-type e p = referent (refers-mutably-to e p)
+
 -- ── pushes ──
 
 module _ {a b : List ℕ} {w : ℕ} {r : Stepped} where

@@ -10,6 +10,7 @@ use Rattle.definitions.specs.Commands.{InstructionForm, plain, unkept, local, c
 use Rattle.definitions.specs.Reading.{read}
 use Rattle.definitions.specs.Reader as reader
 use Rattle.definitions.specs.Places.{At, RecordAt}
+use Rattle.record_reader.specs.Bodies.{operandWidth}
 use Rattle.record_views.specs.declared.TypeList.{TypeList}
 use Rattle.record_views.specs.declared.Fields.{Fields}
 use Rattle.record_views.specs.declared.StructDef.{StructDef}
@@ -22,6 +23,11 @@ pub record ListIs (s : List ℕ) (ts : Signature) (r : TypeList) : Type 0 where
   pub counted : r .count ≡ length ts
   pub small : r .count < 256
   pub stands : At s (r .at) (encodeAll (arguments ts))
+
+-- some types stand where the list says
+pub record TypesIn (s : List ℕ) (r : TypeList) : Type 0 where
+  pub types : Signature
+  pub are : ListIs s types r
 
 -- whatever list was read at `at`
 abbrev pub ListAt : List ℕ → ℕ → TypeList → Type 0
@@ -68,4 +74,6 @@ pub record InstructionHere (s : List ℕ) (at : ℕ) : Type 0 where
 
 pub record InstructionIs (b : Bytecode) (r : Instruction) : Type 0 where
   pub known : r .opcode < 71
+  -- an operand of one byte
+  pub narrow : operandWidth (r .opcode) ≡ 1 → r .operand < 256
   pub is : b ≡ instructionOf (r .opcode) (r .operand) (r .count)

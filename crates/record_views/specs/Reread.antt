@@ -13,6 +13,7 @@ use Rattle.definitions.specs.Bytecode.{Bytecode}
 use Rattle.definitions.specs.CompiledUnit as defs
 use Rattle.definitions.specs.Commands.{InstructionForm, plain, unkept, local, counted, commandsOf, instructionForms, instructionForm}
 use Rattle.definitions.specs.Reading.{read, next, _>>=_, _>>_, give, here, need, byte, u16, number, skip, many}
+use Rattle.definitions.specs.Places.{TypesAt}
 use Rattle.definitions.specs.Reader.{type, types, byteUpTo, fieldInformation, structDefinition, operands, instruction}
 use Rattle.record_reader.specs.ReadTo.{readTo}
 use Rattle.record_reader.specs.declared.ReadTo.the-variants.{Next}
@@ -25,7 +26,7 @@ use Rattle.record_views.specs.declared.TypeList.{TypeList}
 use Rattle.record_views.specs.declared.Fields.{Fields}
 use Rattle.record_views.specs.declared.StructDef.{StructDef}
 use Rattle.record_views.specs.declared.Instruction.{Instruction}
-use Rattle.record_views.specs.Records.{ListAt, DefIs, DefAt, applied, instructionOf, InstructionHere, InstructionIs}
+use Rattle.record_views.specs.Records.{TypesIn, ListAt, DefIs, DefAt, applied, instructionOf, InstructionHere, InstructionIs}
 
 -- every element is a byte
 abbrev pub Bytes : List ℕ → Type 0
@@ -33,10 +34,14 @@ Bytes s = (i : ℕ) → getD s i 0 < 256
 
 -- ── lists of types ──
 
-count-arguments : (ts : Signature) → count (arguments ts) ≡ length ts
+pub count-arguments : (ts : Signature) → count (arguments ts) ≡ length ts
 unfolding count arguments
 count-arguments [] = refl
 count-arguments (t ∷ ts) = ap suc (count-arguments ts)
+
+-- the types of a list, as a walk takes them
+abbrev pub types-at : {s : List ℕ} {r : TypeList} → TypesIn s r → TypesAt s (r .at) (r .count)
+types-at q = record { types = arguments (q .types); counted = count-arguments (q .types) ∙ sym (q .are .counted); stands = q .are .stands }
 
 module _ {s : List ℕ} (bytes : Bytes s) where
   -- a list that was read at `at`: its count stands there, and its types behind it
@@ -238,26 +243,26 @@ module _ {s : List ℕ} {p : ℕ} {b : Bytecode} where
   by-other form (counted-at e) f g h x n = absurd (h refl)
 
 module _ {s : List ℕ} {at : ℕ} (p : InstructionHere s at) {r : Instruction} (o : r .opcode ≡ getD s at 0) where
-  found : p .instruction ≡ applied (getD instructionForms (getD s at 0) InstructionForm.unknown) (r .operand) (r .count) → InstructionIs (p .instruction) r
+  found : p .instruction ≡ applied (getD instructionForms (getD s at 0) InstructionForm.unknown) (r .operand) (r .count) → (operandWidth (getD s at 0) ≡ 1 → r .operand < 256) → InstructionIs (p .instruction) r
   unfolding instructionOf
-  found e = record { known = rw o (reread p .known); is = rw o e }
+  found e n = record { known = rw o (reread p .known); narrow = rw o n; is = rw o e }
 
-  pub is-one : operandWidth (getD s at 0) ≡ 1 → r .operand ≡ getD s (at + 1) 0 → InstructionIs (p .instruction) r
+  pub is-one : operandWidth (getD s at 0) ≡ 1 → r .operand ≡ getD s (at + 1) 0 → r .operand < 256 → InstructionIs (p .instruction) r
   unfolding operandWidth
-  is-one k e = found (by-one _ (reread p .operands-at) k (r .count) ∙ rw e)
+  is-one k e l = found (by-one _ (reread p .operands-at) k (r .count) ∙ rw e) (λ z. l)
 
   pub is-two : operandWidth (getD s at 0) ≡ 2 → r .operand ≡ u16Of s (at + 1) → InstructionIs (p .instruction) r
   unfolding operandWidth
-  is-two k e = found (by-two _ (reread p .operands-at) k (r .count) ∙ rw e)
+  is-two k e = found (by-two _ (reread p .operands-at) k (r .count) ∙ rw e) (λ z. absurd (omega arith))
 
   pub is-ten : operandWidth (getD s at 0) ≡ 10 → r .operand ≡ u16Of s (at + 1) → r .count ≡ numberOf 8 s (at + 1 + 2) → InstructionIs (p .instruction) r
   unfolding operandWidth
-  is-ten k e f = found (by-ten _ (reread p .operands-at) k ∙ rw (e, f))
+  is-ten k e f = found (by-ten _ (reread p .operands-at) k ∙ rw (e, f)) (λ z. absurd (omega arith))
 
   pub is-other :
       (operandWidth (getD s at 0) ≡ 1 → ⊥) → (operandWidth (getD s at 0) ≡ 2 → ⊥) → (operandWidth (getD s at 0) ≡ 10 → ⊥) → InstructionIs (p .instruction) r
   unfolding operandWidth
-  is-other f g h = found (by-other _ (reread p .operands-at) f g h (r .operand) (r .count))
+  is-other f g h = found (by-other _ (reread p .operands-at) f g h (r .operand) (r .count)) (λ z. absurd (f z))
 
 -- ── a u64 ──
 

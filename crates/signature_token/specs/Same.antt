@@ -52,6 +52,14 @@ pub same-is : (t u : SignatureToken) → same t u ≡ true → t ≡ u
 unfolding same
 same-is t u e = decided-is (SignatureToken-discrete ℕ-discrete t u) e
 
+-- two comparisons, of which each holds where the other does
+pub same-both : (t u v w : SignatureToken) → (t ≡ u → v ≡ w) → (v ≡ w → t ≡ u) → same v w ≡ same t u
+same-both t u v w f g = go (same t u) refl
+  where
+    go : (b : Bool) → same t u ≡ b → same v w ≡ b
+    go true e = same-yes v w (f (same-is t u e))
+    go false e = same-no v w (λ i. let z : true ≡ false = sym (same-yes t u (g i)) ∙ e in let n : _≡_ {A = ℕ} 0 1 = cc in omega arith)
+
 -- ── the loop ──
 
 -- the bytes of what stands at a place

@@ -1,10 +1,8 @@
 -- The two loops: over the instructions of a block, and over the blocks. Each has its invariant, where it starts, one turn, and its ends.
-use mathlib.Core.Path.{_≡_, refl, ap, _∙_}
-use mathlib.Core.List.{List, [], _∷_}
-use Prim.Native.Nat.{ℕ, zero, suc, _+_, _-_, _≤_, _<_}
-use native.Mathlib.Omega.{arith}
+use mathlib.Core.Path.{_≡_, refl, _∙_}
+use Prim.Native.Nat.{ℕ, zero, suc, _+_, _≤_, _<_}
 use native.Mathlib.Numerals.{add-one}
-use lib.ListN.{length, take, drop}
+use lib.ListN.{length, drop}
 use Rattle.status.specs.declared.StatusCode.{StatusCode}
 use Rattle.status.specs.declared.StatusCode.the-variants.{«POSITIVE_STACK_SIZE_AT_BLOCK_END»}
 use Rattle.status.specs.declared.Position.the-variants.{BlockStart}
@@ -15,26 +13,7 @@ use Rattle.definitions.specs.Bytecode.{Bytecode}
 use Rattle.definitions.specs.CompiledUnit.{CompiledUnit, Block}
 use Rattle.definitions.specs.StackUsage.{Effect, instructionEffect, instructionsOf, heightAfter, heightOver, atBlockEnd, verifyBlock}
 use Rattle.definitions.specs.Verify.{usageOver, stackUsage}
-
--- what stands at a place of a list is the first of what is left there
-from-place : {A : Type 0} (l : List A) (i : ℕ) {a : A} → at l i ≡ ok a → drop i l ≡ a ∷ drop (suc i) l
-unfolding at
-from-place [] i {a} e = let z : _≡_ {A = ℕ} 0 1 = cc in absurd (omega arith)
-from-place (b ∷ l) zero {a} e = let z : b ≡ a = cc in ap (λ x. x ∷ l) z
-from-place (b ∷ l) (suc i) {a} e = from-place l i e
-
--- the list up to and with the place `last`, from the place i on
-abbrev upTo : {A : Type 0} → ℕ → ℕ → List A → List A
-upTo last i l = take (suc last - i) (drop i l)
-
-up-to-more : {A : Type 0} (last i : ℕ) (l : List A) {a : A} → i ≤ last → at l i ≡ ok a → upTo last i l ≡ a ∷ upTo last (suc i) l
-up-to-more last i l k e =
-    let n : suc last - i ≡ suc (last - i) = omega arith in
-    let m : suc last - suc i ≡ last - i = omega arith in
-    rw (n, m, from-place l i e)
-
-up-to-none : {A : Type 0} (last i : ℕ) (l : List A) → last < i → upTo last i l ≡ []
-up-to-none last i l k = let n : suc last - i ≡ 0 = omega arith in rw n
+use Rattle.unit_views.specs.Along.{from-place, upTo, up-to-more, up-to-none, past-end}
 
 -- ── the instructions of a block ──
 
@@ -96,10 +75,4 @@ module _ {u : CompiledUnit} {i : ℕ} (inv : InBlocks u i) where
 
   pub blocks-done : length (u .blocks) ≤ i → Accepted ≡ stackUsage u
   unfolding usageOver
-  blocks-done k = rw (past (u .blocks) i k) at (inv .left)
-    where
-      past : {A : Type 0} (l : List A) (n : ℕ) → length l ≤ n → drop n l ≡ []
-      past [] zero k = refl
-      past [] (suc n) k = refl
-      past (a ∷ l) zero k = absurd (omega arith)
-      past (a ∷ l) (suc n) k = past l n (omega arith)
+  blocks-done k = rw (past-end (u .blocks) i k) at (inv .left)

@@ -24,7 +24,8 @@ use Rattle.unit_views.specs.Answers.{InstructionAt, SignatureIs, signatureAnswe
 use Rattle.stack_usage_verifier.specs.declared.Effect.{Effect}
 use Rattle.stack_usage_verifier.specs.declared.EffectResult.{EffectResult}
 use Rattle.stack_usage_verifier.specs.Effects.{looksUp, FixedEffect}
-use Rattle.stack_usage_verifier.specs.Answers.{effectResult, handleOf, InstructionEffectAt}
+use Rattle.stack_usage_verifier.specs.Answers.{effectResult, InstructionEffectAt}
+use Rattle.unit_views.specs.Answers.{handleOf}
 
 module _ {A B : Type 0} (f : A → Result B) {x : Result A} where
   -- a refusal stays

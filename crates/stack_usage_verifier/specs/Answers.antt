@@ -5,7 +5,6 @@ use Rattle.definitions.specs.Result.{Result, ok, err, at}
 use Rattle.definitions.specs.Bytecode.{Bytecode}
 use Rattle.definitions.specs.CompiledUnit as defs
 use Rattle.definitions.specs.StackUsage.{Effect, _⇒_, instructionEffect}
-use Rattle.unit_views.specs.declared.FunctionHandle.{FunctionHandle}
 use Rattle.stack_usage_verifier.specs.declared.EffectResult.{EffectResult}
 use Rattle.stack_usage_verifier.specs.declared.FieldCount.{FieldCount}
 use Rattle.stack_usage_verifier.specs.declared.Height.{Height}
@@ -26,9 +25,6 @@ heightResult (Height.Refused status) = err status
 abbrev pub blockResult : BlockResult → Result (Unit {0})
 blockResult BlockResult.Accepted = ok tt
 blockResult (BlockResult.Refused status) = err status
-
-abbrev pub handleOf : FunctionHandle → defs.FunctionHandle
-handleOf h = record { parameters = h .parameters .0; return = h .«return_» .0 }
 
 -- r is the effect of the i-th instruction
 pub record InstructionEffectAt (u : defs.CompiledUnit) (i : ℕ) (r : EffectResult) : Type 0 where

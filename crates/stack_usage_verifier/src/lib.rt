@@ -24,9 +24,9 @@ ghost use Rattle.definitions.specs.Reader.{compiledUnit};
 ghost use Rattle.definitions.specs.StackUsage.{_⇒_, callEffect, fieldCountAt, fieldCountOfInstantiation, heightAfter, verifyBlock};
 ghost use Rattle.definitions.specs.Verify.{stackUsage};
 ghost use Rattle.unit.specs.Views.{UnitRead};
-ghost use Rattle.unit_views.specs.Answers.{blockOf};
+ghost use Rattle.unit_views.specs.Answers.{blockOf, handleOf};
 ghost use Rattle.stack_usage_verifier.specs.Effects.{FixedEffect, EffectTable};
-ghost use Rattle.stack_usage_verifier.specs.Answers.{effectResult, countResult, heightResult, blockResult, handleOf, InstructionEffectAt};
+ghost use Rattle.stack_usage_verifier.specs.Answers.{effectResult, countResult, heightResult, blockResult, InstructionEffectAt};
 
 // How many values an opcode pops, and how many it then pushes.
 pub struct Effect(pub u8, pub u8);

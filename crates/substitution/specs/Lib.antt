@@ -5,3 +5,4 @@ pub mod Size
 pub mod Write
 pub mod Compare
 pub mod Materialize
+pub mod Past

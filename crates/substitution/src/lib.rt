@@ -152,6 +152,15 @@ pub fn instantiated_size(ty: &[u8], at: usize, args: &[u8], places: &[u16]) -> S
     size_of_type(ty, at, args, places, 0)
 }
 
+// The same of the n types at `at`.
+pub fn instantiated_sizes(ty: &[u8], at: usize, n: usize, args: &[u8], places: &[u16]) -> Size
+    requires { ⌜ TypesAt (now ty) at n ⌝ }
+    requires { ⌜ Arguments (now args) (now places) ⌝ }
+    ensures { λ r. ⌜ SizesFrom (now (ty .entry)) at n (now (args .entry)) (now (places .entry)) 0 r ⌝ }
+{
+    size_of_types(ty, at, n, args, places, 0)
+}
+
 // ── writer ──
 
 // Where a type ends in ty, and where its bytes end that were written or compared.
@@ -376,7 +385,7 @@ fn command_length(n: usize) -> usize
 
 // `materialize_type`: the size of a struct with the n arguments that stand from `first` to `end`.
 pub fn materialized_size(first: usize, n: usize, end: usize) -> usize
-    requires { ⌜ (first ≤ end) × (end ≤ 65536) ⌝ }
+    requires { ⌜ (first ≤ end) × (end - first ≤ 65536) ⌝ }
     ensures { λ r. ⌜ MaterializedSize first n end r ⌝ }
 {
     command_length(n) + (end - first)

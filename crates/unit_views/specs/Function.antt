@@ -13,17 +13,23 @@ use Rattle.definitions.specs.Abilities as defs-abilities
 use Rattle.definitions.specs.Reading.{read, _>>=_, byte, many, give}
 use Rattle.definitions.specs.Reader.{compiledUnit, items, ability, signatureOf, functionView}
 use Rattle.definitions.specs.Places.{TypeAt}
+use Rattle.definitions.specs.Substitution.{materializeType}
+use Rattle.theorems.specs.Bytes.{listOf-arguments}
 use Rattle.file_format.specs.declared.Abilities.{Abilities}
 use Rattle.record_reader.specs.Apart.{parts, made, byte-read}
+use Rattle.record_views.specs.declared.TypeList.{TypeList}
+use Rattle.record_views.specs.Records.{TypesIn}
+use Rattle.record_views.specs.Reread.{types-at}
 use Rattle.binary_views.specs.Handles.{HandlesAt, byteUpTo-read}
-use Rattle.binary_views.specs.Abilities.{AbilitiesAt}
+use Rattle.binary_views.specs.Abilities.{AbilitiesAt, MaterializedAbilities}
 use Rattle.unit.specs.declared.View.{View}
 use Rattle.unit.specs.Outline.{starts, placesOf}
 use Rattle.unit.specs.Entries.{segments, joined, starts-joined}
 use Rattle.unit.specs.Views.{UnitRead, viewOf, startsOf}
+use Rattle.unit_views.specs.declared.AbilityContext.{AbilityContext}
 use Rattle.unit_views.specs.Tables.{stand}
 use Rattle.unit_views.specs.Lookups.{signature-read}
-use Rattle.unit_views.specs.Answers.{AbilitiesIs}
+use Rattle.unit_views.specs.Answers.{ContextIs, AbilitiesIs}
 
 -- ── the constraints ──
 
@@ -97,28 +103,42 @@ module _ {s index : List ℕ} {view : View} (u : UnitRead s index view) where
       let h : take (length (startsOf (u .decoded))) index ≡ starts (u .decoded .structHandles) ++ joined (drop 1 (segments (u .decoded))) = u .indexed ∙ starts-joined (u .decoded) in
       rw handles-count (front-of (length (startsOf (u .decoded))) index (starts (u .decoded .structHandles)) (joined (drop 1 (segments (u .decoded)))) h)
 
-  pub handles-at : (n : ℕ) → n ≡ view .«struct_handles» .count → HandlesAt s (take n index)
+  -- ── the context of a look-up ──
+
+  pub context-room : view .function + 7 < length s
+  context-room = omega (arith, constraints-at .here)
+
+  pub context-here :
+      {n k : ℕ} → n ≡ view .«struct_handles» .count → k ≡ getD s (view .function + 7) 0 →
+      ContextIs s index (compiledUnit (u .decoded)) (record { «struct_handles» = n; from = view .function + 8; to = view .function + 8 + k })
   unfolding compiledUnit
-  handles-at n e = record { structHandles = compiledUnit (u .decoded) .structHandles; stand = rw (e, handles-first) (stand u .structHandles) }
-
-  pub handles-room : view .«struct_handles» .count ≤ length index
-  handles-room = omega (arith, handles-count, sym (length-take (view .«struct_handles» .count) index) ∙ ap length handles-first)
-
-  pub constraints-here : (here : view .function + 7 < length s) × (SetsRead s (getD s (view .function + 7) 0) (view .function + 8) (compiledUnit (u .decoded) .function .typeParameters))
-  constraints-here =
+  context-here {n} {k} e f =
+      let c = constraints-at .sets in
       let q : view .function + 1 + 6 ≡ view .function + 7 = omega arith in
       let r : view .function + 1 + 7 ≡ view .function + 8 = omega arith in
-      (omega (arith, constraints-at .here), rw (q, r) at (constraints-at .sets))
+      let d : SetsRead s k (view .function + 8) (compiledUnit (u .decoded) .function .typeParameters) = rw (f, ← q, ← r) c in
+      let z : view .function + 8 + k - (view .function + 8) ≡ k = omega arith in
+      record {
+        room = rw e (omega (arith, handles-count, sym (length-take (view .«struct_handles» .count) index) ∙ ap length handles-first));
+        stand = rw (e, handles-first) (stand u .structHandles);
+        ordered = omega arith;
+        within = d .within;
+        constraints = rw z (sym (d .is));
+      }
 
-  pub constraints-are :
-      {n : ℕ} → n ≡ getD s (view .function + 7) 0 →
-      take (view .function + 8 + n - (view .function + 8)) (drop (view .function + 8) s) ≡ compiledUnit (u .decoded) .function .typeParameters
-  constraints-are {n} e =
-      let z : view .function + 8 + n - (view .function + 8) ≡ getD s (view .function + 7) 0 = omega arith ∙ e in
-      rw z (sym (constraints-here .1 .is))
+module _ {s index : List ℕ} {u : defs.CompiledUnit} {c : AbilityContext} (k : ContextIs s index u c) where
+  abbrev pub context-handles : HandlesAt s (take (c .«struct_handles») index)
+  context-handles = record { structHandles = u .structHandles; stand = k .stand }
 
   pub abilities-here :
-      {ty constraints : List ℕ} {place n : ℕ} {r : Abilities} (p : TypeAt ty place) → n ≡ view .«struct_handles» .count →
-      constraints ≡ compiledUnit (u .decoded) .function .typeParameters → AbilitiesAt ty place s (take n index) constraints r → AbilitiesIs (compiledUnit (u .decoded)) (p .type) r
-  unfolding defs-abilities.abilities handles-at
-  abilities-here {n = n} p e k w = record { is = rw k at (w .answers p (handles-at n e)) }
+      {ty : List ℕ} {place : ℕ} {r : Abilities} (p : TypeAt ty place) → AbilitiesAt ty place s (take (c .«struct_handles») index) (take (c .to - c .from) (drop (c .from) s)) r →
+      AbilitiesIs u (p .type) r
+  unfolding defs-abilities.abilities
+  abilities-here p w = record { is = rw (k .constraints) at (w .answers p context-handles) }
+
+  pub struct-abilities-here :
+      {h : ℕ} {l : TypeList} {r : Abilities} (q : TypesIn s l) →
+      MaterializedAbilities h s (l .at) (l .count) s (take (c .«struct_handles») index) (take (c .to - c .from) (drop (c .from) s)) r →
+      AbilitiesIs u (materializeType h (q .types)) r
+  unfolding defs-abilities.abilities
+  struct-abilities-here q w = record { is = rw (k .constraints, listOf-arguments (q .types)) at (w .answers (types-at q) context-handles) }

@@ -1,12 +1,12 @@
 -- What a look-up may answer, and what it may read, where the table has the entry and where it has not.
 use mathlib.Core.Path.{_≡_, refl, sym, ap, ap₂, _∙_}
-use mathlib.Core.Bool.{Bool, true, false, cond}
-use mathlib.Core.List.{List, [], _∷_, _++_}
-use Prim.Native.Nat.{ℕ, zero, suc, _+_, _-_, _≤_, _<_}
+use mathlib.Core.Bool.{Bool, true, false}
+use mathlib.Core.List.{List, [], _∷_}
+use Prim.Native.Nat.{ℕ, zero, suc, _+_, _≤_, _<_}
 use native.Mathlib.Decide.{decLe}
 use native.Mathlib.Omega.{arith}
 use lib.Dec.{ltb}
-use borrow.Author.Tests.{le-ltb, lt-ltb, ltb-true}
+use borrow.Author.Tests.{ltb-true}
 use lib.ListN.{length, getD, length-map}
 use Rattle.status.specs.declared.StatusCode.{StatusCode}
 use Rattle.status.specs.declared.StatusCode.the-variants.{«OUT_OF_TABLE», «INVALID_OPERATION_IN_SCRIPT», VALUE}
@@ -17,15 +17,17 @@ use Rattle.definitions.specs.CompiledUnit as defs
 use Rattle.definitions.specs.Commands.{commandsOf}
 use Rattle.definitions.specs.Reading.{read, Reader, Placed, here, need, byte, u16, many}
 use Rattle.definitions.specs.Reader.{compiledUnit, items, type, types, structDefinition, functionHandle, functionInstantiation, structDefInstantiation, fieldHandle, fieldInstantiation, block, ability, signatureOf, functionView}
-use Rattle.definitions.specs.Places.{At, Standing}
+use Rattle.definitions.specs.Places.{At}
 use Rattle.theorems.specs.AtLaws.{at-front}
+use Rattle.file_format.specs.AbilitySet.{setOf}
 use Rattle.record_reader.specs.Apart.{u16Of, parts, made, byte-read, u16-read, pair-read}
 use Rattle.record_reader.specs.Sound.{type-sound}
 use Rattle.record_views.specs.declared.Instruction.{Instruction}
 use Rattle.record_views.specs.declared.StructDef.{StructDef}
 use Rattle.record_views.specs.declared.TypeList.{TypeList}
-use Rattle.record_views.specs.Records.{ListAt, DefIs, DefAt, InstructionHere, InstructionIs}
+use Rattle.record_views.specs.Records.{ListIs, ListAt, DefIs, DefAt, InstructionHere, InstructionIs}
 use Rattle.record_views.specs.Reread.{Bytes}
+use Rattle.binary_views.specs.Handles.{handle-bytes}
 use Rattle.unit.specs.declared.Head.{Head}
 use Rattle.unit.specs.declared.Table.{Table}
 use Rattle.unit.specs.declared.View.{View}
@@ -37,9 +39,10 @@ use Rattle.unit_views.specs.declared.PairAt.{PairAt}
 use Rattle.unit_views.specs.declared.Block.{Block}
 use Rattle.unit_views.specs.declared.TypeResult.{TypeResult}
 use Rattle.unit_views.specs.declared.SignatureResult.{SignatureResult}
+use Rattle.unit_views.specs.declared.StructHandleResult.{StructHandleResult}
 use Rattle.unit_views.specs.declared.StructDefResult.{StructDefResult}
-use Rattle.unit_views.specs.Tables.{TableIn, Found, Fits, PairIs, placed, past, pairResult, pairs-fit, pair-answer, PairsFit, stand, signatures-in, structDefs-in, constants-in, blocks-in, functionHandles-in, functionInstantiations-in, structInstantiations-in, fieldHandles-in, fieldInstantiations-in}
-use Rattle.unit_views.specs.Answers.{TypeIs, SignatureIs, StructDefIs, blockOf, BlockAt, InstructionAt, Returns, LocalPlaces, typeAnswer, signature-found, signature-refused}
+use Rattle.unit_views.specs.Tables.{TableIn, Found, Fits, PairIs, placed, past, pairResult, pairs-fit, pair-answer, PairsFit, stand, structHandles-in, signatures-in, structDefs-in, constants-in, blocks-in, functionHandles-in, functionInstantiations-in, structInstantiations-in, fieldHandles-in, fieldInstantiations-in}
+use Rattle.unit_views.specs.Answers.{TypeIs, SignatureIs, StructHandleIs, StructDefIs, blockOf, BlockAt, InstructionAt, typeAnswer, signature-found, signature-refused}
 
 -- record i of a table stands at p
 pub found : {A : Type 0} {body : Reader A} {s index : List ℕ} {t : Table} {l : List A} → TableIn body s index t l → {i p : ℕ} → i < t .count → p ≡ getD index (t .base + i) 0 → Found body s l i p
@@ -107,6 +110,26 @@ module _ {s index : List ℕ} {view : View} (u : UnitRead s index view) where
     constant-here {p} bytes h e =
         let x = found (constants-in u) h e in
         record { is = rw (x .is) (type-sound (u .decoded .head) s bytes 32 .sound (p + 1) _ (x .item) (x .stands .reads) .stands) }
+
+    -- ── struct handles ──
+
+    pub handle-past : view .«struct_handles» .count ≤ i → StructHandleIs s (defs.structHandleAt (compiledUnit (u .decoded)) i) (StructHandleResult.Refused «OUT_OF_TABLE»)
+    unfolding defs.structHandleAt
+    handle-past h = record { is = rw (past (structHandles-in u) h) refl }
+
+    module _ {p : ℕ} (h : i < view .«struct_handles» .count) (e : p ≡ getD index (view .«struct_handles» .base + i) 0) where
+      pub handle-within : p + 2 < length s
+      handle-within = omega (arith, handle-bytes (found (structHandles-in u) h e .stands) .within)
+
+      pub handle-here :
+          {n : ℕ} → n ≡ getD s (p + 2) 0 →
+          StructHandleIs s (defs.structHandleAt (compiledUnit (u .decoded)) i) (StructHandleResult.Found (record { abilities = setOf (getD s (p + 1) 0); parameters = p + 3; count = n }))
+      unfolding defs.structHandleAt
+      handle-here {n} k =
+          let x = found (structHandles-in u) h e in
+          let b = handle-bytes (x .stands) in
+          let c : n ≡ length (x .item .typeParameters) = k ∙ b .counted in
+          record { is = rw (x .is) (record { abilities = b .abilities; counted = c; within = rw c (b .within); phantoms = rw c (b .phantoms) }) }
 
     -- ── struct definitions ──
 
@@ -179,6 +202,7 @@ module _ {s index : List ℕ} {view : View} (u : UnitRead s index view) where
     unfolding compiledUnit instruction-here
     instruction-is k = record {
       known = k instruction-here .known;
+      narrow = k instruction-here .narrow;
       is = nth-placed (u .decoded .code) i first code-placed .0 ∙ ap ok (k instruction-here .is);
     }
 
@@ -261,57 +285,16 @@ module _ {s : List ℕ} (u : defs.CompiledUnit) (i : ℕ) {r : SignatureResult} 
         go [] n k = absurd (c n)
         go (t ∷ ts) n k = at-front (encode t) (encodeAll (arguments ts)) k
 
--- ── locals ──
-
-nth-standing : {s places : List ℕ} {ts : Signature} → Standing s places ts → (i : ℕ) → i < length places → typeAnswer s (TypeResult.Found (getD places i 0)) (at ts i)
-unfolding at
-nth-standing Standing.none i h = absurd (omega arith)
-nth-standing (Standing.more k r) zero h = k
-nth-standing (Standing.more k r) (suc i) h = nth-standing r i (omega arith)
-
-standing-past : {s places : List ℕ} {ts : Signature} → Standing s places ts → (i : ℕ) → length places ≤ i → typeAnswer s (TypeResult.Refused «OUT_OF_TABLE») (at ts i)
-unfolding at
-standing-past Standing.none i h = refl
-standing-past (Standing.more k r) zero h = absurd (omega arith)
-standing-past (Standing.more k r) (suc i) h = standing-past r i (omega arith)
-
--- parameters first, then locals
-at-front-part : (ps ls : Signature) (i : ℕ) → i < length ps → at ps i ≡ at (ps ++ ls) i
-unfolding at
-at-front-part [] ls i h = absurd (omega arith)
-at-front-part (p ∷ ps) ls zero h = refl
-at-front-part (p ∷ ps) ls (suc i) h = at-front-part ps ls i (omega arith)
-
-at-back-part : (ps ls : Signature) (i : ℕ) → length ps ≤ i → at ls (i - length ps) ≡ at (ps ++ ls) i
-unfolding at
-at-back-part [] ls i h = ap (at ls) (omega arith)
-at-back-part (p ∷ ps) ls zero h = absurd (omega arith)
-at-back-part (p ∷ ps) ls (suc i) h = ap (at ls) (omega arith) ∙ at-back-part ps ls i (omega arith)
-
-at-append : (ps ls : Signature) (i : ℕ) → cond (ltb i (length ps)) (at ps i) (at ls (i - length ps)) ≡ at (ps ++ ls) i
-at-append ps ls i = go (decLe (length ps) i)
-  where
-    go : Dec (length ps ≤ i) → cond (ltb i (length ps)) (at ps i) (at ls (i - length ps)) ≡ at (ps ++ ls) i
-    go (yes h) = rw (le-ltb i (length ps) h) (at-back-part ps ls i h)
-    go (no h) = let m : i < length ps = omega arith in rw (lt-ltb i (length ps) m) (at-front-part ps ls i m)
-
-module _ {s index places : List ℕ} {view : View} (u : UnitRead s index view) (k : LocalPlaces s index view places) (i : ℕ) where
-  local-is : defs.localAt (compiledUnit (u .decoded)) i ≡ at (compiledUnit (u .decoded) .function .parameters ++ compiledUnit (u .decoded) .function .locals) i
-  unfolding defs.localAt
-  local-is = at-append (compiledUnit (u .decoded) .function .parameters) (compiledUnit (u .decoded) .function .locals) i
-
-  pub local-here : i < length places → TypeIs s (defs.localAt (compiledUnit (u .decoded)) i) (TypeResult.Found (getD places i 0))
-  local-here h = record { is = rw local-is (nth-standing (k .standing u) i h) }
-
-  pub local-past : length places ≤ i → TypeIs s (defs.localAt (compiledUnit (u .decoded)) i) (TypeResult.Refused «OUT_OF_TABLE»)
-  local-past h = record { is = rw local-is (standing-past (k .standing u) i h) }
-
 -- ── the function ──
 
--- a signature of the function: its index stands at p
-pub record SignatureRead (s : List ℕ) (l : List Signature) (p : ℕ) (ts : Signature) (e : ℕ) : Type 0 where
+-- the index of the signature ts stands at p
+pub record Names (s : List ℕ) (l : List Signature) (p : ℕ) (ts : Signature) : Type 0 where
   pub within : p + 1 < length s
   pub is : at l (u16Of s p) ≡ ok ts
+
+-- a signature was read at p, up to e
+pub record SignatureRead (s : List ℕ) (l : List Signature) (p : ℕ) (ts : Signature) (e : ℕ) : Type 0 where
+  pub names : Names s l p ts
   pub next-at : e ≡ p + 2
 
 nth-is : (l : List Signature) (i : ℕ) → i < length l → at l i ≡ ok (getD l i [])
@@ -337,48 +320,66 @@ signature-read l s p {ts} {e} h =
     let k = ltb-true (b .value) (length l) (needed _ VALUE s (a .value) (b .middle) (c .first)) in
     let j : u16Of s p < length l = rw (r .is) at k in
     record {
-      within = r .within;
-      is = nth-is l (u16Of s p) j ∙ ap ok (ap (λ (i : ℕ). getD l i []) (sym (r .is)) ∙ m .0);
+      names = record { within = r .within; is = nth-is l (u16Of s p) j ∙ ap ok (ap (λ (i : ℕ). getD l i []) (sym (r .is)) ∙ m .0) };
       next-at = sym (m .1) ∙ sym (need-stays _ s (a .value) (b .middle) (c .first)) ∙ r .next-at;
     }
 
--- the function's return
-pub record ReturnRead (s : List ℕ) (l : List Signature) (p : ℕ) (v : defs.FunctionView) : Type 0 where
-  pub within : p + 3 < length s
-  pub is : at l (u16Of s (p + 2)) ≡ ok (v .return)
+-- the three signatures of the function, the command of whose record stands at p
+pub record FunctionRead (s : List ℕ) (l : List Signature) (p : ℕ) (v : defs.FunctionView) : Type 0 where
+  pub parameters : Names s l (p + 1) (v .parameters)
+  pub return : Names s l (p + 3) (v .return)
+  pub locals : Names s l (p + 5) (v .locals)
 
-return-read : (l : List Signature) (s : List ℕ) (p : ℕ) {v : defs.FunctionView} {e : ℕ} → functionView l s p ≡ read v e → ReturnRead s l p v
+function-read : (l : List Signature) (s : List ℕ) (p : ℕ) {v : defs.FunctionView} {e : ℕ} → functionView l s (p + 1) ≡ read v e → FunctionRead s l p v
 unfolding functionView
-return-read l s p h =
-    let a = parts (signatureOf l) _ s p h in
+function-read l s p h =
+    let a = parts (signatureOf l) _ s (p + 1) h in
     let b = parts (signatureOf l) _ s (a .middle) (a .second) in
     let c = parts (signatureOf l) _ s (b .middle) (b .second) in
     let d = parts byte _ s (c .middle) (c .second) in
     let f = parts (many (d .value) ability) _ s (d .middle) (d .second) in
-    let x = signature-read l s p (a .first) in
-    let y = signature-read l s (p + 2) (ap (signatureOf l s) (sym (x .next-at)) ∙ b .first) in
-    let m = made s (f .second) .0 in
-    record { within = omega (arith, y .within); is = y .is ∙ ap (λ (v : defs.FunctionView). ok (v .return)) m }
+    let x = signature-read l s (p + 1) (a .first) in
+    let m : p + 3 ≡ a .middle = omega (arith, x .next-at) in
+    let y = signature-read l s (p + 3) (ap (signatureOf l s) m ∙ b .first) in
+    let n : p + 5 ≡ b .middle = omega (arith, y .next-at) in
+    let z = signature-read l s (p + 5) (ap (signatureOf l s) n ∙ c .first) in
+    rw (← made s (f .second) .0) (record { parameters = x .names; return = y .names; locals = z .names })
+
+-- a signature of the unit, whose index stands at p
+pub record TypesNamed (s index : List ℕ) (view : View) (p : ℕ) : Type 0 where
+  pub unit : UnitRead s index view
+  pub types : Signature
+  pub names : Names s (compiledUnit (unit .decoded) .signatures) p types
 
 module _ {s index : List ℕ} {view : View} (u : UnitRead s index view) where
-  pub return-at : ReturnRead s (compiledUnit (u .decoded) .signatures) (view .function + 1) (compiledUnit (u .decoded) .function)
+  pub function-at : FunctionRead s (compiledUnit (u .decoded) .signatures) (view .function) (compiledUnit (u .decoded) .function)
   unfolding viewOf compiledUnit
-  return-at = rw (u .viewed) (return-read (items (u .decoded .signatures)) s (u .decoded .function .start + 1) (stand u .function .1))
+  function-at = rw (u .viewed) (function-read (items (u .decoded .signatures)) s (u .decoded .function .start) (stand u .function .1))
 
-  return-is : {i : ℕ} → i ≡ u16Of s (view .function + 3) → at (compiledUnit (u .decoded) .signatures) i ≡ ok (compiledUnit (u .decoded) .function .return)
-  return-is e = ap (at (compiledUnit (u .decoded) .signatures)) (e ∙ ap (u16Of s) (omega arith)) ∙ return-at .is
+  abbrev pub parameters-named : TypesNamed s index view (view .function + 1)
+  parameters-named = record { unit = u; types = compiledUnit (u .decoded) .function .parameters; names = function-at .parameters }
 
-  pub return-below : {i : ℕ} → i ≡ u16Of s (view .function + 3) → i < view .signatures .count
-  return-below {i} e = go (decLe (view .signatures .count) i)
+  abbrev pub return-named : TypesNamed s index view (view .function + 3)
+  return-named = record { unit = u; types = compiledUnit (u .decoded) .function .return; names = function-at .return }
+
+  abbrev pub locals-named : TypesNamed s index view (view .function + 5)
+  locals-named = record { unit = u; types = compiledUnit (u .decoded) .function .locals; names = function-at .locals }
+
+module _ {s index : List ℕ} {view : View} {p i : ℕ} (k : TypesNamed s index view p) (e : i ≡ u16Of s p) where
+  named-is : at (compiledUnit (k .unit .decoded) .signatures) i ≡ ok (k .types)
+  named-is = ap (at (compiledUnit (k .unit .decoded) .signatures)) e ∙ k .names .is
+
+  pub named-below : i < view .signatures .count
+  named-below = go (decLe (view .signatures .count) i)
     where
       go : Dec (view .signatures .count ≤ i) → i < view .signatures .count
-      go (yes h) = let z : _≡_ {A = ℕ} 0 1 = let y = past (signatures-in u) h in let x = return-is e in cc in absurd (omega arith)
+      go (yes h) = let z : _≡_ {A = ℕ} 0 1 = let y = past (signatures-in (k .unit)) h in let x = named-is in cc in absurd (omega arith)
       go (no h) = omega arith
 
-  pub return-here : {i : ℕ} {r : TypeList} → i ≡ u16Of s (view .function + 3) → SignatureIs s (defs.signatureAt (compiledUnit (u .decoded)) i) (SignatureResult.Found r) → Returns s (compiledUnit (u .decoded)) r
+  pub named-here : {r : TypeList} → SignatureIs s (defs.signatureAt (compiledUnit (k .unit .decoded)) i) (SignatureResult.Found r) → ListIs s (k .types) r
   unfolding defs.signatureAt
-  return-here {i} {r} e w =
-      let (ts, q, k) = signature-found w refl in
-      let y = return-is e in
-      let x : ts ≡ compiledUnit (u .decoded) .function .return = cc in
-      record { is = rw x at k }
+  named-here {r} w =
+      let (ts, q, l) = signature-found w refl in
+      let y = named-is in
+      let x : ts ≡ k .types = cc in
+      rw x at l

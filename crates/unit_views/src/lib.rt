@@ -1,15 +1,16 @@
 // Look-ups in a unit that was read: `s` are its bytes, `index` and `view` say where its records and instructions stand. Beside
 // binary_views.rs: a table that a script lacks is INVALID_OPERATION_IN_SCRIPT, an index past a table OUT_OF_TABLE.
 use file_format::Abilities;
+use file_format::AbilitySet;
 use file_format::ConstantPoolIndex;
 use file_format::FieldHandleIndex;
 use file_format::FieldInstantiationIndex;
 use file_format::FunctionHandleIndex;
 use file_format::FunctionInstantiationIndex;
-use file_format::LocalIndex;
 use file_format::SignatureIndex;
 use file_format::StructDefInstantiationIndex;
 use file_format::StructDefinitionIndex;
+use file_format::StructHandleIndex;
 use record_views::Instruction;
 use record_views::StructDef;
 use record_views::TypeList;
@@ -23,9 +24,12 @@ ghost use lib.ListN.{getD};
 ghost use Rattle.definitions.specs.CompiledUnit as defs;
 ghost use Rattle.definitions.specs.Places.{TypeAt};
 ghost use Rattle.definitions.specs.Reader.{compiledUnit};
+ghost use Rattle.definitions.specs.Substitution.{materializeType};
+ghost use Rattle.record_views.specs.Records.{ListIs, TypesIn};
 ghost use Rattle.unit.specs.Views.{UnitRead};
 ghost use Rattle.unit_views.specs.Tables.{Fits, PairsFit, PairIs};
-ghost use Rattle.unit_views.specs.Answers.{InstructionAt, BlockAt, Returns, LocalPlaces, SignatureIs, TypeIs, StructDefIs, AbilitiesIs, functionHandleAnswer, functionInstantiationAnswer, structInstantiationAnswer, fieldHandleAnswer, fieldInstantiationAnswer};
+ghost use Rattle.unit_views.specs.Lookups.{TypesNamed};
+ghost use Rattle.unit_views.specs.Answers.{InstructionAt, BlockAt, Returns, SignatureIs, TypeIs, StructDefIs, StructHandleIs, ContextIs, AbilitiesIs, functionHandleAnswer, functionInstantiationAnswer, structInstantiationAnswer, fieldHandleAnswer, fieldInstantiationAnswer};
 
 // The two numbers of a record.
 pub enum PairAt {
@@ -64,6 +68,21 @@ pub struct FieldInstantiation {
     pub type_parameters: SignatureIndex,
 }
 
+// A struct's declared abilities, and its type parameters: `count` bytes at `parameters`, 1 where one is phantom.
+pub struct StructHandle {
+    pub abilities: AbilitySet,
+    pub parameters: usize,
+    pub count: usize,
+}
+
+// What the abilities of a type depend on: the first so many entries of the index are the struct handles, and the constraints of the
+// function's type parameters stand from one place to another.
+struct AbilityContext {
+    struct_handles: usize,
+    from: usize,
+    to: usize,
+}
+
 // Where a type stands in the unit, or the status of a refusal.
 pub enum TypeResult {
     Found(usize),
@@ -72,6 +91,11 @@ pub enum TypeResult {
 
 pub enum SignatureResult {
     Found(TypeList),
+    Refused(StatusCode),
+}
+
+pub enum StructHandleResult {
+    Found(StructHandle),
     Refused(StatusCode),
 }
 
@@ -163,14 +187,38 @@ pub fn block_at(s: &[u8], index: &[u16], view: View, i: usize) -> Block
     }
 }
 
+// The types of the signature whose index stands at `at`.
+fn types_named_at(s: &[u8], index: &[u16], view: View, at: usize) -> TypeList
+    requires { ⌜ TypesNamed (now s) (now index) view at ⌝ }
+    ensures { λ r. ⌜ ((q : TypesNamed (now (s .entry)) (now (index .entry)) view at) → ListIs (now (s .entry)) (q .types) r) ⌝ }
+{
+    let signature = record_views::u16_at(s, at);
+    let p = place(index, view.signatures, widest(signature));
+    record_views::type_list(s, p + 1)
+}
+
+// The types of the function's parameters.
+pub fn parameters(s: &[u8], index: &[u16], view: View) -> TypeList
+    requires { ⌜ UnitRead (now s) (now index) view ⌝ }
+    ensures { λ r. ⌜ ((p : UnitRead (now (s .entry)) (now (index .entry)) view) → ListIs (now (s .entry)) (compiledUnit (p .decoded) .function .parameters) r) ⌝ }
+{
+    types_named_at(s, index, view, view.function + 1)
+}
+
 // The types that the function returns.
 pub fn returns(s: &[u8], index: &[u16], view: View) -> TypeList
     requires { ⌜ UnitRead (now s) (now index) view ⌝ }
     ensures { λ r. ⌜ ((p : UnitRead (now (s .entry)) (now (index .entry)) view) → Returns (now (s .entry)) (compiledUnit (p .decoded)) r) ⌝ }
 {
-    let signature = record_views::u16_at(s, view.function + 3);
-    let p = place(index, view.signatures, widest(signature));
-    record_views::type_list(s, p + 1)
+    types_named_at(s, index, view, view.function + 3)
+}
+
+// The types of the function's locals other than its parameters.
+pub fn locals(s: &[u8], index: &[u16], view: View) -> TypeList
+    requires { ⌜ UnitRead (now s) (now index) view ⌝ }
+    ensures { λ r. ⌜ ((p : UnitRead (now (s .entry)) (now (index .entry)) view) → ListIs (now (s .entry)) (compiledUnit (p .decoded) .function .locals) r) ⌝ }
+{
+    types_named_at(s, index, view, view.function + 5)
 }
 
 pub fn signature_at(s: &[u8], index: &[u16], view: View, idx: SignatureIndex) -> SignatureResult
@@ -212,17 +260,25 @@ pub fn constant_at(s: &[u8], index: &[u16], view: View, idx: ConstantPoolIndex) 
     TypeResult::Found(place(index, view.constants, widest(i)) + 1)
 }
 
-// A local's type. The places of the parameters' and the locals' types are found once for a call.
-pub fn local_at(s: &[u8], index: &[u16], view: View, places: &[u16], idx: LocalIndex) -> TypeResult
+pub fn struct_handle_at(
+    s: &[u8],
+    index: &[u16],
+    view: View,
+    idx: StructHandleIndex,
+) -> StructHandleResult
     requires { ⌜ UnitRead (now s) (now index) view ⌝ }
-    requires { ⌜ LocalPlaces (now s) (now index) view (now places) ⌝ }
-    ensures { λ r. ⌜ ((p : UnitRead (now (s .entry)) (now (index .entry)) view) → TypeIs (now (s .entry)) (defs.localAt (compiledUnit (p .decoded)) (idx .0)) r) ⌝ }
+    ensures { λ r. ⌜ ((p : UnitRead (now (s .entry)) (now (index .entry)) view) → StructHandleIs (now (s .entry)) (defs.structHandleAt (compiledUnit (p .decoded)) (idx .0)) r) ⌝ }
 {
-    let i = wide(idx.0);
-    if places.len() <= i {
-        return TypeResult::Refused(StatusCode::OUT_OF_TABLE);
+    let i = idx.0;
+    if view.struct_handles.count <= i {
+        return StructHandleResult::Refused(StatusCode::OUT_OF_TABLE);
     }
-    TypeResult::Found(widest(places[i]))
+    let p = place(index, view.struct_handles, widest(i));
+    StructHandleResult::Found(StructHandle {
+        abilities: AbilitySet(s[p + 1]),
+        parameters: p + 3,
+        count: wide(s[p + 2]),
+    })
 }
 
 pub fn function_handle_at(
@@ -350,14 +406,54 @@ pub fn field_instantiation_at(
     }
 }
 
+fn ability_context(s: &[u8], index: &[u16], view: View) -> AbilityContext
+    requires { ⌜ UnitRead (now s) (now index) view ⌝ }
+    ensures { λ r. ⌜ ((p : UnitRead (now (s .entry)) (now (index .entry)) view) → ContextIs (now (s .entry)) (now (index .entry)) (compiledUnit (p .decoded)) r) ⌝ }
+{
+    let from = view.function + 8;
+    AbilityContext {
+        struct_handles: widest(view.struct_handles.count),
+        from,
+        to: from + wide(s[view.function + 7]),
+    }
+}
+
 // The abilities of the type at `at` of ty, which is the unit or the area.
 pub fn abilities(ty: &[u8], at: usize, s: &[u8], index: &[u16], view: View) -> Abilities
     requires { ⌜ TypeAt (now ty) at ⌝ }
     requires { ⌜ UnitRead (now s) (now index) view ⌝ }
     ensures { λ r. ⌜ ((p : UnitRead (now (s .entry)) (now (index .entry)) view) (q : TypeAt (now (ty .entry)) at) → AbilitiesIs (compiledUnit (p .decoded)) (q .type) r) ⌝ }
 {
-    let handles = widest(view.struct_handles.count);
-    let from = view.function + 8;
-    let n = wide(s[view.function + 7]);
-    binary_views::abilities(ty, at, s, &index[..handles], &s[from..from + n])
+    let context = ability_context(s, index, view);
+    let handles = context.struct_handles;
+    let from = context.from;
+    let to = context.to;
+    binary_views::abilities(ty, at, s, &index[..handles], &s[from..to])
+}
+
+// The abilities of the struct with the type arguments that stand in the unit.
+pub fn struct_abilities(
+    s: &[u8],
+    index: &[u16],
+    view: View,
+    h: StructHandleIndex,
+    type_args: TypeList,
+) -> Abilities
+    requires { ⌜ UnitRead (now s) (now index) view ⌝ }
+    requires { ⌜ TypesIn (now s) «type_args» ⌝ }
+    ensures { λ r. ⌜ ((p : UnitRead (now (s .entry)) (now (index .entry)) view) (q : TypesIn (now (s .entry)) «type_args») → AbilitiesIs (compiledUnit (p .decoded)) (materializeType (h .0) (q .types)) r) ⌝ }
+{
+    let context = ability_context(s, index, view);
+    let handles = context.struct_handles;
+    let from = context.from;
+    let to = context.to;
+    binary_views::materialized_abilities(
+        h,
+        s,
+        type_args.at,
+        type_args.count,
+        s,
+        &index[..handles],
+        &s[from..to],
+    )
 }

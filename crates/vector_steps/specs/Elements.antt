@@ -23,12 +23,12 @@ use Rattle.signature_token.specs.declared.Referent.the-variants.{Reference, Mut
 use Rattle.signature_token.specs.Token.{tokenOf, TokenAt}
 use Rattle.signature_token.specs.TokenLaws.{IsWrapped, wrapped-is}
 use Rattle.signature_token.specs.Kinds.{ReferentAt}
-use Rattle.signature_token.specs.Same.{Spans, SameAt, same-yes, same-no, same-is}
+use Rattle.signature_token.specs.Same.{Spans, SameAt, same-no, same-both}
 use Rattle.type_stack.specs.Held.{Here}
 use Rattle.type_stack.specs.Stepping.{StepsTo, check-then, check-bad, check-last, check-last-bad}
 use Rattle.type_stack.specs.declared.Stepped.{Stepped}
 use Rattle.type_stack.specs.declared.Stepped.the-variants.{Next, Refused}
-use Rattle.operand_steps.specs.Operands.{span, Refers, refers, refers-mutably, refers-not, referent, inner-is, mutable-is, mutable-not}
+use Rattle.operand_steps.specs.Operands.{span, Refers, refers-not, standing, refers-to, refers-mutably-to, referent, inner-is, mutable-is, mutable-not}
 use Rattle.vector_steps.specs.declared.ElementType.{ElementType}
 use Rattle.vector_steps.specs.declared.ElementType.the-variants.{Found, NoVector}
 
@@ -126,14 +126,6 @@ outer-vector : {t u : SignatureToken} → t ≡ VectorOf u → elementOfOuter (o
 unfolding outer
 outer-vector e = ap (λ (v : SignatureToken). elementOfOuter (outer v)) e
 
--- two comparisons, of which each holds where the other does
-pub same-both : (t u v w : SignatureToken) → (t ≡ u → v ≡ w) → (v ≡ w → t ≡ u) → same v w ≡ same t u
-same-both t u v w f g = go (same t u) refl
-  where
-    go : (b : Bool) → same t u ≡ b → same v w ≡ b
-    go true e = same-yes v w (f (same-is t u e))
-    go false e = same-no v w (λ i. let z : true ≡ false = sym (same-yes t u (g i)) ∙ e in let n : _≡_ {A = ℕ} 0 1 = cc in omega arith)
-
 same-vector : (t u : SignatureToken) → same (VectorOf t) (VectorOf u) ≡ same t u
 same-vector t u = same-both t u (VectorOf t) (VectorOf u) (ap VectorOf) (λ e. cc)
 
@@ -193,22 +185,6 @@ no-reference t e = go (outer t) e
     go other f = refl
 
 module _ {s : List ℕ} {x : ℕ} {r : Referent} (k : ReferentAt s x r) where
-  -- the type as the laws of references ask for it
-  here : (p : TypeAt s x) → Here s x (length (encode (p .type))) (p .type)
-  here p = record { at = p .stands; long = refl }
-
-  refers-to : {y : ℕ} → r ≡ Reference y → (p : TypeAt s x) → Refers false s x (length (encode (p .type))) (p .type) y
-  refers-to e p = refers k (here p) e
-
-  refers-mutably-to : {y : ℕ} → r ≡ MutableReference y → (p : TypeAt s x) → Refers true s x (length (encode (p .type))) (p .type) y
-  refers-mutably-to e p = refers-mutably k (here p) e
-
-  pub reference-type : {y : ℕ} → r ≡ Reference y → TypeAt s x → TypeAt s y
-  reference-type e p = referent (refers-to e p)
-
-  pub mutable-type : {y : ℕ} → r ≡ MutableReference y → TypeAt s x → TypeAt s y
-  mutable-type e p = referent (refers-mutably-to e p)
-
   module _ (m : Bool) where
     -- the vector that it refers to
     referred-vector :
@@ -228,16 +204,16 @@ module _ {s : List ℕ} {x : ℕ} {r : Referent} (k : ReferentAt s x r) where
     referred-nothing f = record { is = λ p. ap elementOf (f p) }
 
     pub by-reference : {y : ℕ} {q : ElementType} → r ≡ Reference y → m ≡ false → VectorElementAt s y q → ElementTypeAt s x m q
-    by-reference e i v = record { is = λ p. let n = refers-to e p in referred-vector p n (referred-any (p .type) i (inner-is n)) v }
+    by-reference e i v = record { is = λ p. let n = refers-to k e p in referred-vector p n (referred-any (p .type) i (inner-is n)) v }
 
     pub by-mutable : {y : ℕ} {q : ElementType} → r ≡ MutableReference y → VectorElementAt s y q → ElementTypeAt s x m q
-    by-mutable e v = record { is = λ p. let n = refers-mutably-to e p in referred-vector p n (referred-both (p .type) m (mutable-is n refl) (inner-is n)) v }
+    by-mutable e v = record { is = λ p. let n = refers-mutably-to k e p in referred-vector p n (referred-both (p .type) m (mutable-is n refl) (inner-is n)) v }
 
     pub not-mutable : {y : ℕ} → r ≡ Reference y → m ≡ true → ElementTypeAt s x m NoVector
-    not-mutable e i = referred-nothing (λ p. referred-mutable (p .type) i (mutable-not (refers-to e p) refl))
+    not-mutable e i = referred-nothing (λ p. referred-mutable (p .type) i (mutable-not (refers-to k e p) refl))
 
     pub no-referent : r ≡ Value → ElementTypeAt s x m NoVector
-    no-referent e = referred-nothing (λ p. let f = refers-not k (here p) e in referred-both (p .type) m (no-reference (p .type) f) f)
+    no-referent e = referred-nothing (λ p. let f = refers-not k (standing p) e in referred-both (p .type) m (no-reference (p .type) f) f)
 
 module _ {a : List ℕ} {x : ℕ} {m : Bool} {r : ElementType} (k : ElementTypeAt a x m r) where
   pub element-found : {y : ℕ} → r ≡ Found y → (p : TypeAt a x) → RefersToVector a (p .type) m y

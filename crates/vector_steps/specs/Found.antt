@@ -1,35 +1,25 @@
--- A type that a look-up found in the unit: where it stands and ends, a comparison with it, its push and that of a type made from it, and the
--- laws of the look-up for the program that it is part of.
+-- A type that a look-up found in the unit: the part that it takes up, its push and that of a type made from it, and a comparison with it.
 use mathlib.Core.Path.{_≡_, ap, sym, _∙_}
 use mathlib.Core.List.{List, _∷_}
 use mathlib.Core.Bool.{Bool}
 use Prim.Native.Nat.{ℕ, _-_, _≤_}
 use native.Mathlib.Omega.{arith}
 use lib.ListN.{length, take, drop}
-use Rattle.status.specs.declared.StatusCode.{StatusCode}
-use Rattle.definitions.specs.Result.{Result}
 use Rattle.definitions.specs.SignatureToken.{SignatureToken, Vector, encode, same}
 use Rattle.definitions.specs.Substitution.{referenceTo}
-use Rattle.definitions.specs.Machine.{Step, _>>=_, push, look}
+use Rattle.definitions.specs.Machine.{push}
 use Rattle.definitions.specs.Places.{TypeAt, EndOfType}
 use Rattle.theorems.specs.AtLaws.{at-part}
 use Rattle.signature_token.specs.Ends.{type-room}
-use Rattle.signature_token.specs.Same.{SameAt}
+use Rattle.signature_token.specs.Same.{SameAt, same-both}
 use Rattle.type_stack.specs.Held.{Here, Part, part}
-use Rattle.type_stack.specs.Stepping.{StepsTo, look-then, look-bad}
+use Rattle.type_stack.specs.Stepping.{StepsTo}
 use Rattle.type_stack.specs.Pushing.{PushesTo}
 use Rattle.type_stack.specs.declared.Stepped.{Stepped}
-use Rattle.type_stack.specs.declared.Stepped.the-variants.{Refused}
 use Rattle.operand_steps.specs.Operands.{span}
-use Rattle.unit_views.specs.Answers.{TypeIs, type-found, type-refused}
-use Rattle.unit_views.specs.declared.TypeResult.{TypeResult}
-use Rattle.vector_steps.specs.Elements.{ReferenceCommand, same-both}
+use Rattle.vector_steps.specs.Elements.{ReferenceCommand}
 
 -- ── where it stands ──
-
-module _ {s : List ℕ} {x : Result SignatureToken} {r : TypeResult} (k : TypeIs s x r) {d : ℕ} (e : r ≡ TypeResult.Found d) where
-  unfoldable pub found-type : TypeAt s d
-  found-type = let f = type-found k e in record { type = f .0; stands = f .2 }
 
 -- the part of the unit up to its end
 pub type-part : {s : List ℕ} {d z : ℕ} → TypeAt s d → EndOfType s d z → length s ≤ 65535 → Part s d z
@@ -53,16 +43,6 @@ module _ {s : List ℕ} {d z : ℕ} (q : TypeAt s d) (f : EndOfType s d z) {a b 
 
   pub push-reference : {m : Bool} {c : ℕ} → ReferenceCommand m c → PushesTo (c ∷ part s d z) a w b r → StepsTo (push (referenceTo m (q .type))) a w b r
   push-reference {m} {c} k p = p .steps (referenceTo m (q .type)) (k .is (q .type) ∙ ap (λ (bs : List ℕ). c ∷ bs) (type-bytes q f))
-
--- ── look-ups ──
-
-module _ {s : List ℕ} {x : Result SignatureToken} {q : TypeResult} (k : TypeIs s x q) {a : List ℕ} {w : ℕ} (f : SignatureToken → Step) where
-  pub type-then :
-      {d : ℕ} {b : List ℕ} {r : Stepped} → q ≡ TypeResult.Found d → ((p : TypeAt s d) → StepsTo (f (p .type)) a w b r) → StepsTo (look x >>= f) a w b r
-  type-then e g = let z = type-found k e in look-then f (z .1) (g (record { type = z .0; stands = z .2 }))
-
-  pub type-bad : {y : StatusCode} → q ≡ TypeResult.Refused y → StepsTo (look x >>= f) a w a (Refused y)
-  type-bad e = look-bad f (type-refused k e)
 
 -- ── a comparison ──
 

@@ -22,7 +22,7 @@ use Rattle.operand_steps.specs.Operands.{span}
 use Rattle.unit_views.specs.Answers.{TypeIs, type-found, type-refused}
 use Rattle.unit_views.specs.declared.TypeResult.{TypeResult}
 use Rattle.vector_steps.specs.Elements.{isElement, ElementIs, guard-is}
-use Rattle.vector_steps.specs.Found.{found-type, type-then, type-bad}
+use Rattle.step_views.specs.Checks.{found-type, type-then, type-bad}
 
 -- ── the words ──
 

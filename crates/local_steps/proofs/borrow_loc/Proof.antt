@@ -2,7 +2,8 @@
 use Rattle.definitions.specs.TypeSafety as step
 use Rattle.type_stack.specs.Stepping.{check-then, check-bad}
 use Rattle.local_steps.specs.Inner.{a-reference, no-reference}
-use Rattle.local_steps.specs.Checks.{type-then, type-bad, unit-type, unit-room}
+use Rattle.step_views.specs.Checks.{type-then, type-bad, unit-type, unit-room}
+use Rattle.locals.specs.Locals.{local-type}
 use borrow.Author.Needs.{needs}
 use Rattle.local_steps.proofs.borrow_loc.Statement.{statement}
 use Rattle.local_steps.proofs.borrow_loc.Tie as tie
@@ -15,11 +16,11 @@ borrow-loc-spec =
     (λ c κs. search needs)
     (λ c. search needs)
     (λ c. search needs)
-    (λ c κs. unit-type (c .before .before .before .before .before .before .before .before .pre .1 .0) (c .before .before .before .local-at .ensures) (c .before .local .given .1))
+    (λ c κs. unit-type (c .before .before .before .before .before .before .before .before .before .pre .1 .0) (λ q. local-type (c .before .before .before .before .before .before .before .before .before .pre .1 .1) q _ (c .before .before .before .local-at .ensures)) (c .before .local .given .1))
     (λ c. search needs)
     (λ c. search needs)
-    (λ c κs. (c .before .before .before .before .before .before .before .before .before .before .before .before .pre .0, unit-room (c .before .before .before .before .before .before .before .before .before .before .before .before .pre .1 .0) (c .before .before .before .before .before .before .before .local-at .ensures) (c .before .before .before .before .before .local .given .1)))
-    (λ c p. type-bad (c .before .before .before .local-at .ensures p) _ (c .before .status .given .1))
-    (λ c p. type-then (c .before .before .before .before .before .before .local-at .ensures p) _ (c .before .before .before .before .local .given .1) (λ q. check-bad _ (a-reference (c .before .before .inner-at .ensures) q (c .enum-told .given .1))))
+    (λ c κs. (c .before .before .before .before .before .before .before .before .before .before .before .before .before .pre .0, unit-room (c .before .before .before .before .before .before .before .before .before .before .before .before .before .pre .1 .0) (λ q. local-type (c .before .before .before .before .before .before .before .before .before .before .before .before .before .pre .1 .1) q _ (c .before .before .before .before .before .before .before .local-at .ensures)) (c .before .before .before .before .before .local .given .1)))
+    (λ c p. type-bad (local-type (c .before .before .before .before .before .before .before .before .before .pre .1 .1) p _ (c .before .before .before .local-at .ensures)) _ (c .before .status .given .1))
+    (λ c p. type-then (local-type (c .before .before .before .before .before .before .before .before .before .before .before .before .pre .1 .1) p _ (c .before .before .before .before .before .before .local-at .ensures)) _ (c .before .before .before .before .local .given .1) (λ q. check-bad _ (a-reference (c .before .before .inner-at .ensures) q (c .enum-told .given .1))))
     (λ c. search needs)
-    (λ c p. type-then (c .before .before .before .before .before .before .before .before .before .before .local-at .ensures p) _ (c .before .before .before .before .before .before .before .before .local .given .1) (λ q. check-then _ _ (no-reference (c .before .before .before .before .before .before .inner-at .ensures) q (c .before .before .before .before .enum-told2 .given .1)) (c .before .before .push-reference .ensures .steps q))))
+    (λ c p. type-then (local-type (c .before .before .before .before .before .before .before .before .before .before .before .before .before .before .before .before .pre .1 .1) p _ (c .before .before .before .before .before .before .before .before .before .before .local-at .ensures)) _ (c .before .before .before .before .before .before .before .before .local .given .1) (λ q. check-then _ _ (no-reference (c .before .before .before .before .before .before .inner-at .ensures) q (c .before .before .before .before .enum-told2 .given .1)) (c .before .before .push-reference .ensures .steps q))))

@@ -4,7 +4,7 @@ use mathlib.Core.Path.{refl}
 use Rattle.signature_token.specs.TokenLaws.{is-bool}
 use Rattle.type_stack.specs.Stepping.{two-none, two-then, check-then, check-bad}
 use Rattle.operand_steps.specs.Operands.{operands, operand, span, no-left, no-right, yes-both, push-leaf}
-use Rattle.local_steps.specs.Checks.{ability-then, ability-bad}
+use Rattle.step_views.specs.Checks.{ability-then, ability-bad}
 use borrow.Author.Needs.{needs}
 use Rattle.local_steps.proofs.equality.Statement.{statement}
 use Rattle.local_steps.proofs.equality.Tie as tie

@@ -1,6 +1,6 @@
 -- There is no such constant, or its type is pushed.
 use Rattle.definitions.specs.TypeSafety as step
-use Rattle.local_steps.specs.Checks.{type-then, type-bad, unit-room}
+use Rattle.step_views.specs.Checks.{type-then, type-bad, unit-room}
 use borrow.Author.Needs.{needs}
 use Rattle.local_steps.proofs.ld_const.Statement.{statement}
 use Rattle.local_steps.proofs.ld_const.Tie as tie

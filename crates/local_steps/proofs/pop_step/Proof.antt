@@ -2,7 +2,7 @@
 use Rattle.definitions.specs.TypeSafety as step
 use Rattle.type_stack.specs.Stepping.{pop-none, pop-then, check-last, check-last-bad}
 use Rattle.operand_steps.specs.Operands.{operand, operands}
-use Rattle.local_steps.specs.Checks.{ability-then, ability-bad}
+use Rattle.step_views.specs.Checks.{ability-then, ability-bad}
 use borrow.Author.Needs.{needs}
 use Rattle.local_steps.proofs.pop_step.Statement.{statement}
 use Rattle.local_steps.proofs.pop_step.Tie as tie

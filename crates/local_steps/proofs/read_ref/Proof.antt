@@ -4,7 +4,7 @@ use native.Mathlib.Omega.{arith}
 use Rattle.type_stack.specs.Stepping.{pop-none, pop-then, look-then, look-bad, check-then, check-bad}
 use Rattle.operand_steps.specs.Operands.{operands, referent, top-room, inner-is, push-referent}
 use Rattle.local_steps.specs.Inner.{references, inner-room, refers-either, no-inner}
-use Rattle.local_steps.specs.Checks.{ability-then, ability-bad}
+use Rattle.step_views.specs.Checks.{ability-then, ability-bad}
 use borrow.Author.Needs.{needs}
 use Rattle.local_steps.proofs.read_ref.Statement.{statement}
 use Rattle.local_steps.proofs.read_ref.Tie as tie

@@ -4,7 +4,8 @@ use mathlib.Core.Path.{sym, _∙_}
 use Rattle.type_stack.specs.Stepping.{pop-none, pop-then, check-last, check-last-bad}
 use Rattle.operand_steps.specs.Operands.{span}
 use Rattle.local_steps.specs.Inner.{top-span}
-use Rattle.local_steps.specs.Checks.{type-then, type-bad, unit-type}
+use Rattle.step_views.specs.Checks.{type-then, type-bad, unit-type}
+use Rattle.locals.specs.Locals.{local-type}
 use borrow.Author.Needs.{needs}
 use Rattle.local_steps.proofs.st_loc.Statement.{statement}
 use Rattle.local_steps.proofs.st_loc.Tie as tie
@@ -21,7 +22,7 @@ st-loc-spec =
     (λ c κs. search needs)
     (λ c. search needs)
     (λ c. search needs)
-    (λ c κs. (top-span (c .before .before .before .before .before .before .before .before .before .before .before .before .pre .0) (c .before .before .before .before .before .before .before .peek .ensures) (c .before .before .before .before .before .top .given .1), unit-type (c .before .before .before .before .before .before .before .before .before .before .before .before .pre .1 .0) (c .before .before .before .local-at .ensures) (c .before .local .given .1)))
-    (λ c p. pop-then (c .before .before .before .before .before .before .before .peek .ensures) (c .before .before .before .before .before .top .given .1) (λ t h. type-bad (c .before .before .before .local-at .ensures p) _ (c .before .status .given .1)))
-    (λ c p. pop-then (c .before .before .before .before .before .before .before .before .before .peek .ensures) (c .before .before .before .before .before .before .before .top .given .1) (λ t h. type-then (c .before .before .before .before .before .local-at .ensures p) _ (c .before .before .before .local .given .1) (λ q. check-last _ (sym (c .before .same-type .ensures (span h) q) ∙ c .if1 .taken))))
-    (λ c p. pop-then (c .before .before .before .before .before .before .before .before .before .peek .ensures) (c .before .before .before .before .before .before .before .top .given .1) (λ t h. type-then (c .before .before .before .before .before .local-at .ensures p) _ (c .before .before .before .local .given .1) (λ q. check-last-bad (sym (c .before .same-type .ensures (span h) q) ∙ c .if1 .left)))))
+    (λ c κs. (top-span (c .before .before .before .before .before .before .before .before .before .before .before .before .before .pre .0) (c .before .before .before .before .before .before .before .peek .ensures) (c .before .before .before .before .before .top .given .1), unit-type (c .before .before .before .before .before .before .before .before .before .before .before .before .before .pre .1 .0) (λ q. local-type (c .before .before .before .before .before .before .before .before .before .before .before .before .before .pre .1 .1) q _ (c .before .before .before .local-at .ensures)) (c .before .local .given .1)))
+    (λ c p. pop-then (c .before .before .before .before .before .before .before .peek .ensures) (c .before .before .before .before .before .top .given .1) (λ t h. type-bad (local-type (c .before .before .before .before .before .before .before .before .before .before .before .before .before .pre .1 .1) p _ (c .before .before .before .local-at .ensures)) _ (c .before .status .given .1)))
+    (λ c p. pop-then (c .before .before .before .before .before .before .before .before .before .peek .ensures) (c .before .before .before .before .before .before .before .top .given .1) (λ t h. type-then (local-type (c .before .before .before .before .before .before .before .before .before .before .before .before .before .before .before .pre .1 .1) p _ (c .before .before .before .before .before .local-at .ensures)) _ (c .before .before .before .local .given .1) (λ q. check-last _ (sym (c .before .same-type .ensures (span h) q) ∙ c .if1 .taken))))
+    (λ c p. pop-then (c .before .before .before .before .before .before .before .before .before .peek .ensures) (c .before .before .before .before .before .before .before .top .given .1) (λ t h. type-then (local-type (c .before .before .before .before .before .before .before .before .before .before .before .before .before .before .before .pre .1 .1) p _ (c .before .before .before .before .before .local-at .ensures)) _ (c .before .before .before .local .given .1) (λ q. check-last-bad (sym (c .before .same-type .ensures (span h) q) ∙ c .if1 .left)))))

@@ -5,7 +5,7 @@ use mathlib.Core.Path.{refl, sym, _∙_}
 use Rattle.type_stack.specs.Stepping.{two-none, two-then, look-then, look-bad, check-then, check-bad, check-last, check-last-bad}
 use Rattle.operand_steps.specs.Operands.{operands, span, referent, refers-mutably, mutable-is, no-mutable}
 use Rattle.local_steps.specs.Inner.{references}
-use Rattle.local_steps.specs.Checks.{ability-then, ability-bad}
+use Rattle.step_views.specs.Checks.{ability-then, ability-bad}
 use borrow.Author.Needs.{needs}
 use Rattle.local_steps.proofs.write_ref.Statement.{statement}
 use Rattle.local_steps.proofs.write_ref.Tie as tie

@@ -24,7 +24,7 @@ instruction-at-spec =
     (λ c κs. let e = (ap operandWidth (sym (c .before .before .wide .ensures .0)) ∙ sym (c .before .operand-width .ensures)) in omega (arith, reread (c .before .before .before .before .before .pre) .room))
     (λ c. let e = (ap operandWidth (sym (c .before .before .before .wide .ensures .0)) ∙ sym (c .before .before .operand-width .ensures)) in omega (arith, reread (c .before .before .before .before .before .before .pre) .room))
     (λ c κs. let e = (ap operandWidth (sym (c .before .before .before .wide .ensures .0)) ∙ sym (c .before .before .operand-width .ensures)) in omega (arith, reread (c .before .before .before .before .before .before .pre) .room))
-    (λ c. λ p. is-one p refl (let e = (ap operandWidth (sym (c .before .before .before .before .wide .ensures .0)) ∙ sym (c .before .before .before .operand-width .ensures)) in omega arith) (c .wide16 .ensures .0))
+    (λ c. λ p. is-one p refl (let e = (ap operandWidth (sym (c .before .before .before .before .wide .ensures .0)) ∙ sym (c .before .before .before .operand-width .ensures)) in omega arith) (c .wide16 .ensures .0) (c .wide16 .ensures .1))
     (λ c. λ p. is-two p refl (let e = (ap operandWidth (sym (c .before .before .before .wide .ensures .0)) ∙ sym (c .before .before .operand-width .ensures)) in omega arith) (c .u16-at .ensures))
     (λ c. λ p. is-ten p refl (let e = (ap operandWidth (sym (c .before .before .before .before .wide .ensures .0)) ∙ sym (c .before .before .before .operand-width .ensures)) in omega arith) (c .before .u16-at2 .ensures) (c .u64-at .ensures ∙ ap (numberOf 8 _) (omega arith)))
     (λ c. λ p. is-other p refl (λ k. let e = (ap operandWidth (sym (c .before .before .wide .ensures .0)) ∙ sym (c .before .operand-width .ensures)) in omega arith) (λ k. let e = (ap operandWidth (sym (c .before .before .wide .ensures .0)) ∙ sym (c .before .operand-width .ensures)) in omega arith) (λ k. let e = (ap operandWidth (sym (c .before .before .wide .ensures .0)) ∙ sym (c .before .operand-width .ensures)) in omega arith)))

@@ -1,6 +1,5 @@
 -- `instruction_at`: the instruction that stands at its place.
 use Rattle.unit_views.specs.Lookups.{code-fits, instruction-here, instruction-is}
-use borrow.Author.Needs.{needs}
 use Rattle.unit_views.proofs.instruction_at.Statement.{statement}
 use Rattle.unit_views.proofs.instruction_at.Tie as tie
 

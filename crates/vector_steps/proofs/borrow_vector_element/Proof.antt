@@ -1,9 +1,7 @@
 -- The look-up, and then the borrow of the declared element.
-use native.Mathlib.Omega.{arith}
 use borrow.Author.Needs.{needs}
 use Rattle.definitions.specs.TypeSafety as step
-use Rattle.unit_views.specs.Tables.{unit-short}
-use Rattle.vector_steps.specs.Found.{found-type, type-then, type-bad}
+use Rattle.step_views.specs.Checks.{type-then, type-bad, unit-room}
 use Rattle.vector_steps.specs.Named.{borrowDeclared}
 use Rattle.vector_steps.proofs.borrow_vector_element.Statement.{statement}
 use Rattle.vector_steps.proofs.borrow_vector_element.Tie as tie
@@ -16,7 +14,7 @@ borrow-vector-element-spec =
     (λ c κs. search needs)
     (λ c. search needs)
     (λ c. search needs)
-    (λ c κs. (c .before .before .before .before .before .before .before .before .pre .0, (found-type (c .before .before .before .before .element-type-at .ensures (c .before .before .before .before .before .before .before .before .pre .1)) (c .before .before .declared .given .1), omega (arith, unit-short (c .before .before .before .before .before .before .before .before .pre .1)))))
+    (λ c κs. (c .before .before .before .before .before .before .before .before .pre .0, unit-room (c .before .before .before .before .before .before .before .before .pre .1) (c .before .before .before .before .element-type-at .ensures) (c .before .before .declared .given .1)))
     (λ c p. type-bad (c .before .before .before .element-type-at .ensures p) _ (c .before .status .given .1))
     (λ c. search needs)
     (λ c p. type-then (c .before .before .before .before .before .before .before .element-type-at .ensures p) _ (c .before .before .before .before .before .declared .given .1) (c .before .before .borrow-declared .ensures)))

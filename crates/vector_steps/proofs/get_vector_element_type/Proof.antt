@@ -1,6 +1,7 @@
 -- Each answer follows from that of `referent_at`, and then of the look at the vector.
 use borrow.Author.Needs.{needs}
-use Rattle.vector_steps.specs.Elements.{reference-type, mutable-type, by-reference, by-mutable, not-mutable, no-referent}
+use Rattle.operand_steps.specs.Operands.{reference-type, mutable-type}
+use Rattle.vector_steps.specs.Elements.{by-reference, by-mutable, not-mutable, no-referent}
 use Rattle.vector_steps.proofs.get_vector_element_type.Statement.{statement}
 use Rattle.vector_steps.proofs.get_vector_element_type.Tie as tie
 

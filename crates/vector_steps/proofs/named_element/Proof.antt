@@ -1,6 +1,6 @@
 -- No signature, an element type that is the operand's, or one that is not.
 use borrow.Author.Needs.{needs}
-use Rattle.vector_steps.specs.Found.{found-type}
+use Rattle.step_views.specs.Checks.{found-type}
 use Rattle.vector_steps.specs.Named.{named-none, named-yes, named-no}
 use Rattle.vector_steps.proofs.named_element.Statement.{statement}
 use Rattle.vector_steps.proofs.named_element.Tie as tie

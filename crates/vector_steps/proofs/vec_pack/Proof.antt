@@ -5,7 +5,8 @@ use borrow.Author.Needs.{needs}
 use Rattle.definitions.specs.TypeSafety as step
 use Rattle.type_stack.specs.Stepping.{and-then, and-bad, and-stacked}
 use Rattle.unit_views.specs.Tables.{unit-short}
-use Rattle.vector_steps.specs.Found.{found-type, type-part, push-vector, type-then, type-bad}
+use Rattle.step_views.specs.Checks.{found-type, type-then, type-bad}
+use Rattle.vector_steps.specs.Found.{type-part, push-vector}
 use Rattle.vector_steps.proofs.vec_pack.Statement.{statement}
 use Rattle.vector_steps.proofs.vec_pack.Tie as tie
 

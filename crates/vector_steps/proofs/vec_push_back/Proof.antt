@@ -4,7 +4,8 @@ use Rattle.definitions.specs.TypeSafety as step
 use Rattle.type_stack.specs.Stepping.{two-none, two-then, check-then, check-bad}
 use Rattle.type_stack.specs.Tops.{topped-two}
 use Rattle.operand_steps.specs.Operands.{span}
-use Rattle.vector_steps.specs.Found.{found-type, type-then, type-bad, same-turned}
+use Rattle.step_views.specs.Checks.{found-type, type-then, type-bad}
+use Rattle.vector_steps.specs.Found.{same-turned}
 use Rattle.vector_steps.specs.Elements.{element-last, element-last-bad}
 use Rattle.vector_steps.proofs.vec_push_back.Statement.{statement}
 use Rattle.vector_steps.proofs.vec_push_back.Tie as tie

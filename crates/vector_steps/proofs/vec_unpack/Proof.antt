@@ -7,7 +7,8 @@ use Rattle.type_stack.specs.Stepping.{pop-none, pop-then, check-then, check-bad
 use Rattle.type_stack.specs.Tops.{topped}
 use Rattle.operand_steps.specs.Operands.{span}
 use Rattle.unit_views.specs.Tables.{unit-short}
-use Rattle.vector_steps.specs.Found.{found-type, type-part, type-bytes, type-then, type-bad}
+use Rattle.step_views.specs.Checks.{found-type, type-then, type-bad}
+use Rattle.vector_steps.specs.Found.{type-part, type-bytes}
 use Rattle.vector_steps.proofs.vec_unpack.Statement.{statement}
 use Rattle.vector_steps.proofs.vec_unpack.Tie as tie
 

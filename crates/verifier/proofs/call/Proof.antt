@@ -1,5 +1,7 @@
 -- The area is refused and kept; or the unit is judged and the area cleared.
 use mathlib.Core.Path.{_∙_}
+use lib.ListN.{length}
+use native.Mathlib.Omega.{arith}
 use Rattle.verifier.proofs.Calls.{area-refused, area-kept, area-accepted, area-cleared}
 use borrow.Author.Needs.{needs}
 use Rattle.verifier.proofs.call.Statement.{statement}
@@ -14,5 +16,5 @@ call-spec =
     (λ c κs. search needs)
     (λ c. search needs)
     (λ c.
-    let h = c .before .before .before .before .before .if1 .left in
-    (c .before .before .before .before .judge .ensures ∙ area-accepted _ _ _ h, c .before .before .clear .ensures ∙ area-cleared _ h)))
+    let h = c .before .before .before .before .before .before .before .before .if1 .left in
+    (c .before .before .before .before .before .before .judge .ensures ∙ area-accepted _ _ _ h, c .before .before .clear .ensures ∙ area-cleared _ (length (c .before .before .before .before .before .before .judge .last .1 .0)) (omega arith) h)))

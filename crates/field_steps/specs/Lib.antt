@@ -1,0 +1,5 @@
+pub mod Borrows
+pub mod Operand
+pub mod Owners
+pub mod Fields
+pub mod Program

@@ -1,0 +1,334 @@
+// `verify_instr` of type_safety.rs: one decision over the opcode picks the step. An instruction that names a table takes its operand as an
+// index of that table here, and nowhere else.
+use file_format::ConstantPoolIndex;
+use file_format::FieldHandleIndex;
+use file_format::FieldInstantiationIndex;
+use file_format::FunctionHandleIndex;
+use file_format::FunctionInstantiationIndex;
+use file_format::LocalIndex;
+use file_format::SignatureIndex;
+use file_format::StructDefInstantiationIndex;
+use file_format::StructDefinitionIndex;
+use record_views::Instruction;
+use record_views::TypeList;
+use status::StatusCode;
+use type_stack::Stepped;
+use unit::View;
+ghost use mathlib.Core.Path.{_≡_};
+ghost use Prim.Native.Nat.{_+_, _≤_, _<_};
+ghost use Rattle.definitions.specs.Reader.{compiledUnit};
+ghost use Rattle.locals.specs.Locals.{LocalPlaces};
+ghost use Rattle.type_stack.specs.Held.{Stacked};
+ghost use Rattle.unit.specs.Views.{UnitRead};
+ghost use Rattle.instructions.specs.Does.{Does, DoesAt, Between};
+
+// The commands of u8, u64 and u128, in this order.
+fn integer_type(k: u8) -> u8
+    requires { ⌜ k < 3 ⌝ }
+    ensures { λ r. ⌜ r ≡ 2 + k ⌝ }
+{
+    2 + k
+}
+
+// CopyLoc, MoveLoc, StLoc.
+fn local_instr(
+    area: &mut [u8],
+    weight: usize,
+    s: &[u8],
+    index: &[u16],
+    view: View,
+    parameters: &[u16],
+    locals: &[u16],
+    instruction: Instruction,
+) -> Stepped
+    requires { ⌜ Stacked (now area) weight ⌝ }
+    requires { ⌜ UnitRead (now s) (now index) view ⌝ }
+    requires { ⌜ LocalPlaces (now s) (now index) view (now parameters) (now locals) ⌝ }
+    requires { ⌜ Between 14 16 instruction × (instruction .operand < 256) ⌝ }
+    ensures { λ r. ⌜ ((p : UnitRead (now (s .entry)) (now (index .entry)) view) → Does (compiledUnit (p .decoded)) instruction (now (area .entry)) weight (now (area .exit)) r) ⌝ }
+{
+    let opcode = instruction.opcode;
+    let idx = LocalIndex(instruction.operand as u8);
+    match opcode {
+        14 => local_steps::copy_loc(area, weight, s, index, view, parameters, locals, idx),
+        15 => local_steps::move_loc(area, weight, s, index, view, parameters, locals, idx),
+        _ => local_steps::st_loc(area, weight, s, index, view, parameters, locals, idx),
+    }
+}
+
+// MutBorrowLoc, ImmBorrowLoc.
+fn borrow_loc_instr(
+    area: &mut [u8],
+    weight: usize,
+    s: &[u8],
+    index: &[u16],
+    view: View,
+    parameters: &[u16],
+    locals: &[u16],
+    instruction: Instruction,
+) -> Stepped
+    requires { ⌜ Stacked (now area) weight ⌝ }
+    requires { ⌜ UnitRead (now s) (now index) view ⌝ }
+    requires { ⌜ LocalPlaces (now s) (now index) view (now parameters) (now locals) ⌝ }
+    requires { ⌜ Between 26 27 instruction × (instruction .operand < 256) ⌝ }
+    ensures { λ r. ⌜ ((p : UnitRead (now (s .entry)) (now (index .entry)) view) → Does (compiledUnit (p .decoded)) instruction (now (area .entry)) weight (now (area .exit)) r) ⌝ }
+{
+    let opcode = instruction.opcode;
+    let idx = LocalIndex(instruction.operand as u8);
+    let mutable = opcode == 26;
+    local_steps::borrow_loc(
+        area,
+        weight,
+        s,
+        index,
+        view,
+        parameters,
+        locals,
+        mutable,
+        idx,
+    )
+}
+
+// Call, CallGeneric.
+fn call_instr(
+    area: &mut [u8],
+    weight: usize,
+    s: &[u8],
+    index: &[u16],
+    view: View,
+    instruction: Instruction,
+) -> Stepped
+    requires { ⌜ Stacked (now area) weight ⌝ }
+    requires { ⌜ UnitRead (now s) (now index) view ⌝ }
+    requires { ⌜ Between 17 18 instruction ⌝ }
+    ensures { λ r. ⌜ ((p : UnitRead (now (s .entry)) (now (index .entry)) view) → Does (compiledUnit (p .decoded)) instruction (now (area .entry)) weight (now (area .exit)) r) ⌝ }
+{
+    let opcode = instruction.opcode;
+    let x = instruction.operand;
+    match opcode {
+        17 => call_steps::function_call(area, weight, s, index, view, FunctionHandleIndex(x)),
+        _ => {
+            let inst = FunctionInstantiationIndex(x);
+            call_steps::function_call_generic(area, weight, s, index, view, inst)
+        }
+    }
+}
+
+// Pack, PackGeneric, Unpack, UnpackGeneric.
+fn struct_instr(
+    area: &mut [u8],
+    weight: usize,
+    s: &[u8],
+    index: &[u16],
+    view: View,
+    instruction: Instruction,
+) -> Stepped
+    requires { ⌜ Stacked (now area) weight ⌝ }
+    requires { ⌜ UnitRead (now s) (now index) view ⌝ }
+    requires { ⌜ Between 19 22 instruction ⌝ }
+    ensures { λ r. ⌜ ((p : UnitRead (now (s .entry)) (now (index .entry)) view) → Does (compiledUnit (p .decoded)) instruction (now (area .entry)) weight (now (area .exit)) r) ⌝ }
+{
+    let opcode = instruction.opcode;
+    let def = StructDefinitionIndex(instruction.operand);
+    let inst = StructDefInstantiationIndex(instruction.operand);
+    match opcode {
+        19 => struct_steps::pack(
+            area,
+            weight,
+            s,
+            step_views::plain_struct(s, index, view, def),
+        ),
+        20 => struct_steps::pack(
+            area,
+            weight,
+            s,
+            step_views::generic_struct(s, index, view, inst),
+        ),
+        21 => struct_steps::unpack(
+            area,
+            weight,
+            s,
+            step_views::plain_struct(s, index, view, def),
+        ),
+        _ => {
+            let found = step_views::generic_struct(s, index, view, inst);
+            struct_steps::unpack(area, weight, s, found)
+        }
+    }
+}
+
+// The borrows of a field.
+fn field_instr(
+    area: &mut [u8],
+    weight: usize,
+    s: &[u8],
+    index: &[u16],
+    view: View,
+    instruction: Instruction,
+) -> Stepped
+    requires { ⌜ Stacked (now area) weight ⌝ }
+    requires { ⌜ UnitRead (now s) (now index) view ⌝ }
+    requires { ⌜ Between 28 31 instruction ⌝ }
+    ensures { λ r. ⌜ ((p : UnitRead (now (s .entry)) (now (index .entry)) view) → Does (compiledUnit (p .decoded)) instruction (now (area .entry)) weight (now (area .exit)) r) ⌝ }
+{
+    let opcode = instruction.opcode;
+    let handle = FieldHandleIndex(instruction.operand);
+    let inst = FieldInstantiationIndex(instruction.operand);
+    let none = TypeList { at: 0, count: 0 };
+    match opcode {
+        28 => field_steps::borrow_field(area, weight, s, index, view, true, handle, none),
+        29 => field_steps::borrow_field_generic(area, weight, s, index, view, true, inst),
+        30 => field_steps::borrow_field(area, weight, s, index, view, false, handle, none),
+        _ => field_steps::borrow_field_generic(area, weight, s, index, view, false, inst),
+    }
+}
+
+// The borrows of a struct in global storage.
+fn global_instr(
+    area: &mut [u8],
+    weight: usize,
+    s: &[u8],
+    index: &[u16],
+    view: View,
+    instruction: Instruction,
+) -> Stepped
+    requires { ⌜ Stacked (now area) weight ⌝ }
+    requires { ⌜ UnitRead (now s) (now index) view ⌝ }
+    requires { ⌜ Between 32 35 instruction ⌝ }
+    ensures { λ r. ⌜ ((p : UnitRead (now (s .entry)) (now (index .entry)) view) → Does (compiledUnit (p .decoded)) instruction (now (area .entry)) weight (now (area .exit)) r) ⌝ }
+{
+    let opcode = instruction.opcode;
+    let def = StructDefinitionIndex(instruction.operand);
+    let inst = StructDefInstantiationIndex(instruction.operand);
+    let none = TypeList { at: 0, count: 0 };
+    match opcode {
+        32 => resource_steps::borrow_global(area, weight, s, index, view, true, def, none),
+        33 => resource_steps::borrow_global_generic(area, weight, s, index, view, true, inst),
+        34 => resource_steps::borrow_global(area, weight, s, index, view, false, def, none),
+        _ => resource_steps::borrow_global_generic(area, weight, s, index, view, false, inst),
+    }
+}
+
+// Exists, MoveFrom, MoveTo, each of a struct that is not generic and of a generic one.
+fn resource_instr(
+    area: &mut [u8],
+    weight: usize,
+    s: &[u8],
+    index: &[u16],
+    view: View,
+    instruction: Instruction,
+) -> Stepped
+    requires { ⌜ Stacked (now area) weight ⌝ }
+    requires { ⌜ UnitRead (now s) (now index) view ⌝ }
+    requires { ⌜ Between 55 60 instruction ⌝ }
+    ensures { λ r. ⌜ ((p : UnitRead (now (s .entry)) (now (index .entry)) view) → Does (compiledUnit (p .decoded)) instruction (now (area .entry)) weight (now (area .exit)) r) ⌝ }
+{
+    let opcode = instruction.opcode;
+    let def = StructDefinitionIndex(instruction.operand);
+    let inst = StructDefInstantiationIndex(instruction.operand);
+    match opcode {
+        55 => {
+            let found = step_views::plain_struct(s, index, view, def);
+            resource_steps::exists(area, weight, s, index, view, found)
+        }
+        56 => {
+            let found = step_views::generic_struct(s, index, view, inst);
+            resource_steps::exists(area, weight, s, index, view, found)
+        }
+        57 => {
+            let found = step_views::plain_struct(s, index, view, def);
+            resource_steps::move_from(area, weight, s, index, view, found)
+        }
+        58 => {
+            let found = step_views::generic_struct(s, index, view, inst);
+            resource_steps::move_from(area, weight, s, index, view, found)
+        }
+        59 => {
+            let found = step_views::plain_struct(s, index, view, def);
+            resource_steps::move_to(area, weight, s, index, view, found)
+        }
+        _ => {
+            let found = step_views::generic_struct(s, index, view, inst);
+            resource_steps::move_to(area, weight, s, index, view, found)
+        }
+    }
+}
+
+// The vector instructions.
+fn vector_instr(
+    area: &mut [u8],
+    weight: usize,
+    s: &[u8],
+    index: &[u16],
+    view: View,
+    instruction: Instruction,
+) -> Stepped
+    requires { ⌜ Stacked (now area) weight ⌝ }
+    requires { ⌜ UnitRead (now s) (now index) view ⌝ }
+    requires { ⌜ Between 63 70 instruction ⌝ }
+    ensures { λ r. ⌜ ((p : UnitRead (now (s .entry)) (now (index .entry)) view) → Does (compiledUnit (p .decoded)) instruction (now (area .entry)) weight (now (area .exit)) r) ⌝ }
+{
+    let opcode = instruction.opcode;
+    let idx = SignatureIndex(instruction.operand);
+    let n = instruction.count;
+    match opcode {
+        63 => vector_steps::vec_pack(area, weight, s, index, view, idx, n),
+        64 => vector_steps::vec_len(area, weight, s, index, view, idx),
+        65 => vector_steps::borrow_vector_element(area, weight, s, index, view, idx, false),
+        66 => vector_steps::borrow_vector_element(area, weight, s, index, view, idx, true),
+        67 => vector_steps::vec_push_back(area, weight, s, index, view, idx),
+        68 => vector_steps::vec_pop_back(area, weight, s, index, view, idx),
+        69 => vector_steps::vec_unpack(area, weight, s, index, view, idx, n),
+        _ => vector_steps::vec_swap(area, weight, s, index, view, idx),
+    }
+}
+
+// `verify_instr` of the i-th instruction.
+pub fn verify_instr(
+    area: &mut [u8],
+    weight: usize,
+    s: &[u8],
+    index: &[u16],
+    view: View,
+    parameters: &[u16],
+    locals: &[u16],
+    i: usize,
+) -> Stepped
+    requires { ⌜ Stacked (now area) weight ⌝ }
+    requires { ⌜ UnitRead (now s) (now index) view ⌝ }
+    requires { ⌜ LocalPlaces (now s) (now index) view (now parameters) (now locals) ⌝ }
+    requires { ⌜ i < view .code .count ⌝ }
+    ensures { λ r. ⌜ ((p : UnitRead (now (s .entry)) (now (index .entry)) view) → DoesAt (compiledUnit (p .decoded)) i (now (area .entry)) weight (now (area .exit)) r) ⌝ }
+{
+    let it = unit_views::instruction_at(s, index, view, i);
+    let opcode = it.opcode;
+    match opcode {
+        0 => local_steps::pop_step(area, weight, s, index, view),
+        1 => list_steps::ret_step(area, weight, s, index, view),
+        2..=3 => operand_steps::pop_leaf(area, weight, 1, StatusCode::BR_TYPE_MISMATCH_ERROR),
+        4 => Stepped::Next(weight), // Branch
+        5..=7 => type_stack::push_leaf(area, weight, integer_type(opcode - 5)),
+        8..=10 => operand_steps::cast(area, weight, integer_type(opcode - 8)),
+        11 => { local_steps::ld_const(area, weight, s, index, view, ConstantPoolIndex(it.operand)) }
+        12..=13 => type_stack::push_leaf(area, weight, 1),
+        14..=16 => local_instr(area, weight, s, index, view, parameters, locals, it),
+        17..=18 => call_instr(area, weight, s, index, view, it),
+        19..=22 => struct_instr(area, weight, s, index, view, it),
+        23 => local_steps::read_ref(area, weight, s, index, view),
+        24 => local_steps::write_ref(area, weight, s, index, view),
+        25 => operand_steps::freeze_ref(area, weight),
+        26..=27 => borrow_loc_instr(area, weight, s, index, view, parameters, locals, it),
+        28..=31 => field_instr(area, weight, s, index, view, it),
+        32..=35 => global_instr(area, weight, s, index, view, it),
+        36..=43 => operand_steps::arithmetic(area, weight),
+        44..=45 => operand_steps::logical(area, weight),
+        46 => operand_steps::negation(area, weight),
+        47..=48 => local_steps::equality(area, weight, s, index, view),
+        49..=52 => operand_steps::comparison(area, weight),
+        53 => operand_steps::pop_leaf(area, weight, 3, StatusCode::ABORT_TYPE_MISMATCH_ERROR),
+        54 => Stepped::Next(weight), // Nop
+        55..=60 => resource_instr(area, weight, s, index, view, it),
+        61..=62 => operand_steps::shift(area, weight),
+        _ => vector_instr(area, weight, s, index, view, it),
+    }
+}

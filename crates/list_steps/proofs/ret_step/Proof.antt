@@ -1,0 +1,19 @@
+-- The returns are popped as they stand, so there are no arguments.
+use native.Mathlib.Omega.{arith}
+use borrow.Author.Needs.{needs}
+use Rattle.definitions.specs.Places.{none}
+use Rattle.definitions.specs.TypeSafety as step
+use Rattle.unit_views.specs.Tables.{unit-short}
+use Rattle.list_steps.specs.Forms.{formed}
+use Rattle.list_steps.proofs.ret_step.Statement.{statement}
+use Rattle.list_steps.proofs.ret_step.Tie as tie
+
+pub ret-step-spec : {M : Type 1} → statement M
+unfolding step.retStep formed
+ret-step-spec =
+    tie.close
+    (tie.spec
+    (λ c κs. search needs)
+    (λ c. search needs)
+    (λ c κs. (c .before .before .before .before .before .pre .0, ((record { types = _; are = c .before .returns .ensures (c .before .before .before .before .before .pre .1) .is }, omega (arith, unit-short (c .before .before .before .before .before .pre .1))), record { subst = _; standing = none })))
+    (λ c p. c .pop-each .ensures .steps (record { types = _; are = c .before .before .returns .ensures p .is }) (record { subst = _; standing = none })))

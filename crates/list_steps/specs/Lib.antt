@@ -1,0 +1,4 @@
+pub mod Forms
+pub mod Made
+pub mod Pops
+pub mod Pushes

@@ -1,0 +1,3 @@
+pub mod Structs
+pub mod Checks
+pub mod Looked

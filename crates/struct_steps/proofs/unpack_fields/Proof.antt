@@ -1,0 +1,27 @@
+-- Every field is instantiated, and then all are pushed.
+use mathlib.Core.Path.{sym}
+use native.Mathlib.Omega.{arith}
+use lib.Seq.{length-take-le}
+use borrow.Author.Needs.{needs}
+use Rattle.list_steps.specs.Made.{list-types, list-small, arguments-of}
+use Rattle.struct_steps.specs.Packing.{unpack-past, unpack-made}
+use Rattle.struct_steps.proofs.unpack_fields.Statement.{statement}
+use Rattle.struct_steps.proofs.unpack_fields.Tie as tie
+
+pub unpack-fields-spec : {M : Type 1} → statement M
+unpack-fields-spec =
+    tie.close
+    (tie.spec
+    (λ c. search needs)
+    (λ c κs. let q = c .before .before .before .pre .1 .1 in (list-types q, (list-small q, omega (arith, c .before .before .before .pre .1 .2))))
+    (λ c. search needs)
+    (λ c. sym (length-take-le _ _ (omega (arith, list-small (c .before .before .before .before .before .before .pre .1 .1)))))
+    (λ c κs. (c .before .before .before .before .before .before .pre .1 .0, arguments-of (c .before .before .before .before .before .before .pre .1 .1) (c .before .before .type-places .ensures)))
+    (λ c. search needs)
+    (λ c. search needs)
+    (λ c. search needs)
+    (λ c. sym (length-take-le _ _ (omega (arith, list-small (c .before .before .before .before .before .before .before .before .before .before .before .pre .1 .1)))))
+    (λ c κs. (c .before .before .before .before .before .before .before .before .before .before .before .pre .0, (c .before .before .before .before .before .before .before .before .before .before .before .pre .1 .0, arguments-of (c .before .before .before .before .before .before .before .before .before .before .before .pre .1 .1) (c .before .before .before .before .before .before .before .type-places .ensures))))
+    (λ c. unpack-past (c .before .before .before .before .before .type-places .ensures) (c .before .before .instantiates-each .ensures) (c .enum-told .given .1))
+    (λ c. search needs)
+    (λ c. unpack-made (c .before .before .before .before .before .before .before .before .before .before .type-places .ensures) (c .before .before .before .before .before .before .before .instantiates-each .ensures) (c .before .before .before .before .before .enum-told2 .given .1) (c .before .before .push-each .ensures)))

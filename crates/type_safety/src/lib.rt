@@ -1,0 +1,117 @@
+// `verify` of type_safety.rs: the blocks as listed, each from its first to its last instruction, following no jump, past Ret and Abort too.
+// The stack is empty at first and is not cleared between blocks.
+use status::Position;
+use status::Verdict;
+use type_stack::Stepped;
+use type_stack::Walk;
+use unit::View;
+use unit_views::Block;
+ghost use mathlib.Core.Path.{_≡_};
+ghost use Prim.Native.Nat.{_≤_, _<_};
+ghost use lib.ListN.{length};
+ghost use Rattle.definitions.specs.Reader.{compiledUnit};
+ghost use Rattle.definitions.specs.Verify.{walkBlock, walk, typeSafety};
+ghost use Rattle.locals.specs.Locals.{LocalPlaces};
+ghost use Rattle.type_stack.specs.Held.{Stacked};
+ghost use Rattle.unit.specs.Views.{UnitRead};
+ghost use Rattle.unit_views.specs.Answers.{blockOf};
+ghost use Rattle.type_safety.specs.Walks.{Walks};
+
+// A block, from the stack that the last one left.
+fn verify_block(
+    area: &mut [u8],
+    weight: usize,
+    s: &[u8],
+    index: &[u16],
+    view: View,
+    parameters: &[u16],
+    locals: &[u16],
+    block: Block,
+) -> Walk
+    requires { ⌜ Stacked (now area) weight ⌝ }
+    requires { ⌜ UnitRead (now s) (now index) view ⌝ }
+    requires { ⌜ LocalPlaces (now s) (now index) view (now parameters) (now locals) ⌝ }
+    requires { ⌜ (block .first ≤ block .last) × (block .last < view .code .count) ⌝ }
+    ensures { λ r. ⌜ ((p : UnitRead (now (s .entry)) (now (index .entry)) view) → Walks (λ n. walkBlock (compiledUnit (p .decoded)) n (blockOf block)) (now (area .entry)) weight (now (area .exit)) r) ⌝ }
+{
+    let last = block.last as usize;
+    let mut below = weight;
+    let mut i = block.first as usize;
+    while i <= last {
+        match instructions::verify_instr(area, below, s, index, view, parameters, locals, i) {
+            Stepped::Refused(status) => {
+                return Walk::Stopped {
+                    status,
+                    offset: i,
+                    weight: below,
+                };
+            }
+            Stepped::Next(next) => {
+                below = next;
+                i += 1;
+            }
+        }
+    }
+    Walk::Stands(below)
+}
+
+// The blocks as listed; the first refusal ends it.
+fn verify_blocks(
+    area: &mut [u8],
+    s: &[u8],
+    index: &[u16],
+    view: View,
+    parameters: &[u16],
+    locals: &[u16],
+) -> Walk
+    requires { ⌜ length (now area) ≤ 65535 ⌝ }
+    requires { ⌜ UnitRead (now s) (now index) view ⌝ }
+    requires { ⌜ LocalPlaces (now s) (now index) view (now parameters) (now locals) ⌝ }
+    ensures { λ r. ⌜ ((p : UnitRead (now (s .entry)) (now (index .entry)) view) → Walks (λ n. walk (compiledUnit (p .decoded)) n (compiledUnit (p .decoded) .blocks)) (now (area .entry)) 0 (now (area .exit)) r) ⌝ }
+{
+    let blocks = view.blocks;
+    let count = blocks.count as usize;
+    let mut weight = 0usize;
+    let mut block_id = 0usize;
+    while block_id < count {
+        let block = unit_views::block_at(s, index, view, block_id);
+        match verify_block(area, weight, s, index, view, parameters, locals, block) {
+            Walk::Stands(next) => {
+                weight = next;
+                block_id += 1;
+            }
+            Walk::Stopped {
+                status,
+                offset,
+                weight: before,
+            } => {
+                return Walk::Stopped {
+                    status,
+                    offset,
+                    weight: before,
+                };
+            }
+        }
+    }
+    Walk::Stands(weight)
+}
+
+// `verify`: a refusal carries its instruction's offset.
+pub fn verify(area: &mut [u8], s: &[u8], index: &[u16], view: View) -> Verdict
+    requires { ⌜ length (now area) ≤ 65535 ⌝ }
+    requires { ⌜ UnitRead (now s) (now index) view ⌝ }
+    ensures { λ r. ⌜ ((p : UnitRead (now (s .entry)) (now (index .entry)) view) → r ≡ typeSafety (compiledUnit (p .decoded)) (length (now (area .entry)))) ⌝ }
+{
+    let mut first = [0u16; 255];
+    let n = locals::parameter_places(s, index, view, &mut first);
+    let mut second = [0u16; 255];
+    let m = locals::local_places(s, index, view, &mut second);
+    match verify_blocks(area, s, index, view, &first[..n], &second[..m]) {
+        Walk::Stands(_) => Verdict::Accepted,
+        Walk::Stopped {
+            status,
+            offset,
+            weight: _,
+        } => status::refusal_at(status, Position::Instruction(offset as u16)),
+    }
+}
