@@ -1,1 +1,2 @@
 pub mod AbilitySet
+pub mod Indexes

@@ -36,7 +36,7 @@ fn wide(x: u8) -> usize
 }
 
 // `count` bytes that are not looked at.
-pub fn skip_bytes(s: &[u8], at: usize, count: usize) -> ReadTo
+fn skip_bytes(s: &[u8], at: usize, count: usize) -> ReadTo
     ensures { λ r. ⌜ r ≡ readTo (skip count (now (s .entry)) at) ⌝ }
 {
     if s.len() < at {
@@ -51,7 +51,7 @@ pub fn skip_bytes(s: &[u8], at: usize, count: usize) -> ReadTo
 // ── types ──
 
 // What a byte opens as a type's command.
-pub fn type_shape(command: u8) -> TypeShape
+fn type_shape(command: u8) -> TypeShape
     ensures { λ r. ⌜ r ≡ typeShape command ⌝ }
 {
     match command {
@@ -67,7 +67,7 @@ pub fn type_shape(command: u8) -> TypeShape
 }
 
 // A type of at most so many levels.
-pub fn read_type(s: &[u8], at: usize, levels: u8) -> ReadTo
+fn read_type(s: &[u8], at: usize, levels: u8) -> ReadTo
     ensures { λ r. ⌜ ((head : Head) → r ≡ readTo (typeWithin (commandsOf head) levels (now (s .entry)) at)) ⌝ }
 {
     if s.len() <= at {
@@ -92,7 +92,7 @@ pub fn read_type(s: &[u8], at: usize, levels: u8) -> ReadTo
 }
 
 // u8 count, and that many types of at most so many levels.
-pub fn read_types_within(s: &[u8], at: usize, levels: u8) -> ReadTo
+fn read_types_within(s: &[u8], at: usize, levels: u8) -> ReadTo
     ensures { λ r. ⌜ ((head : Head) → r ≡ readTo (counted (typeWithin (commandsOf head) levels) (now (s .entry)) at)) ⌝ }
 {
     if s.len() <= at {
@@ -113,7 +113,7 @@ pub fn read_types_within(s: &[u8], at: usize, levels: u8) -> ReadTo
 }
 
 // `11`: u8 count, types.
-pub fn read_types(s: &[u8], at: usize) -> ReadTo
+fn read_types(s: &[u8], at: usize) -> ReadTo
     ensures { λ r. ⌜ ((head : Head) → r ≡ readTo (types (commandsOf head) (now (s .entry)) at)) ⌝ }
 {
     read_types_within(s, at, 32)
@@ -145,7 +145,7 @@ fn read_bytes_up_to(s: &[u8], at: usize, most: u8) -> ReadTo
 }
 
 // `10`: ability byte, u8 count, phantom bytes.
-pub fn read_struct_handle(s: &[u8], at: usize) -> ReadTo
+fn read_struct_handle(s: &[u8], at: usize) -> ReadTo
     ensures { λ r. ⌜ r ≡ readTo (structHandle (now (s .entry)) at) ⌝ }
 {
     if s.len() <= at {
@@ -158,14 +158,14 @@ pub fn read_struct_handle(s: &[u8], at: usize) -> ReadTo
 }
 
 // `12`, `13`, `15`, `16`, `17` and `1A`: two u16.
-pub fn read_pair(s: &[u8], at: usize) -> ReadTo
+fn read_pair(s: &[u8], at: usize) -> ReadTo
     ensures { λ r. ⌜ r ≡ readTo (pair (now (s .entry)) at) ⌝ }
 {
     skip_bytes(s, at, 4)
 }
 
 // `14`: u16 handle, kind, and the fields of a declared one.
-pub fn read_struct_definition(s: &[u8], at: usize) -> ReadTo
+fn read_struct_definition(s: &[u8], at: usize) -> ReadTo
     ensures { λ r. ⌜ ((head : Head) → r ≡ readTo (structDefinition (commandsOf head) (now (s .entry)) at)) ⌝ }
 {
     let handle = skip_bytes(s, at, 2);
