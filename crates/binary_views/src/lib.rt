@@ -17,7 +17,7 @@ ghost use Rattle.binary_views.specs.Handles.{HandleAt, HandlesAt};
 ghost use Rattle.binary_views.specs.Abilities.{leafSet, ofVector, StructAbilitiesAt, InstantiatedAt, AbilitiesAt, InstantiationAt, MaterializedAbilities, GatheredAt};
 
 // Where a record stands, by the place of its command; or its index is past the table.
-pub enum Place {
+enum Place {
     At(usize),
     OutOfTable,
 }
@@ -41,7 +41,7 @@ fn widest(x: u16) -> usize
 }
 
 // Where the h-th struct handle stands.
-pub fn struct_handle_at(handles: &[u16], h: StructHandleIndex) -> Place
+fn struct_handle_at(handles: &[u16], h: StructHandleIndex) -> Place
     ensures { λ r. ⌜ PlaceAt (now (handles .entry)) (h .0) r ⌝ }
 {
     let i = widest(h.0);

@@ -24,13 +24,13 @@ ghost use Rattle.local_steps.specs.Inner.{InnerAt};
 ghost use Rattle.local_steps.specs.Pushes.{PushesType, PushesReference};
 
 // A type as a reference of either kind: where what it refers to stands, or that it is none.
-pub enum EitherReference {
+enum EitherReference {
     Inner(usize),
     Value,
 }
 
 // What the type at `at` refers to, if it is a reference of either kind.
-pub fn inner_at(s: &[u8], at: usize) -> EitherReference
+fn inner_at(s: &[u8], at: usize) -> EitherReference
     requires { ⌜ TypeAt (now s) at ⌝ }
     ensures { λ r. ⌜ InnerAt (now (s .entry)) at r ⌝ }
 {
@@ -42,7 +42,7 @@ pub fn inner_at(s: &[u8], at: usize) -> EitherReference
 }
 
 // Pushes the type that stands at `at` of s.
-pub fn push_type(area: &mut [u8], weight: usize, s: &[u8], at: usize) -> Stepped
+fn push_type(area: &mut [u8], weight: usize, s: &[u8], at: usize) -> Stepped
     requires { ⌜ Stacked (now area) weight ⌝ }
     requires { ⌜ TypeAt (now s) at × (length (now s) ≤ 65535) ⌝ }
     ensures { λ r. ⌜ PushesType (now (s .entry)) at (now (area .entry)) weight (now (area .exit)) r ⌝ }
@@ -52,7 +52,7 @@ pub fn push_type(area: &mut [u8], weight: usize, s: &[u8], at: usize) -> Stepped
 }
 
 // Pushes a reference to the type that stands at `at` of s.
-pub fn push_reference(area: &mut [u8], weight: usize, mutable: bool, s: &[u8], at: usize) -> Stepped
+fn push_reference(area: &mut [u8], weight: usize, mutable: bool, s: &[u8], at: usize) -> Stepped
     requires { ⌜ Stacked (now area) weight ⌝ }
     requires { ⌜ TypeAt (now s) at × (length (now s) ≤ 65535) ⌝ }
     ensures { λ r. ⌜ PushesReference mutable (now (s .entry)) at (now (area .entry)) weight (now (area .exit)) r ⌝ }

@@ -75,7 +75,7 @@ fn widest(x: u16) -> usize
 }
 
 // The u16 at `at`, low byte first.
-pub fn u16_at(s: &[u8], at: usize) -> u16
+fn u16_at(s: &[u8], at: usize) -> u16
     requires { ⌜ at + 1 < length (now s) ⌝ }
     ensures { λ r. ⌜ r ≡ getD (now (s .entry)) at 0 + 256 * getD (now (s .entry)) (at + 1) 0 ⌝ }
 {

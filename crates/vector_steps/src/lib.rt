@@ -26,7 +26,7 @@ ghost use Rattle.vector_steps.specs.Named.{NamedElement, borrowDeclared}
 ghost use Rattle.vector_steps.specs.Many.{PushesMany};
 
 // Where the element type of a vector stands.
-pub enum ElementType {
+enum ElementType {
     Found(usize),
     NoVector,
 }
@@ -52,7 +52,7 @@ fn vector_element(s: &[u8], at: usize) -> ElementType
 }
 
 // The element of the vector that the type at `at` refers to; with mut_ref_only a `&mut` alone refers.
-pub fn get_vector_element_type(s: &[u8], at: usize, mut_ref_only: bool) -> ElementType
+fn get_vector_element_type(s: &[u8], at: usize, mut_ref_only: bool) -> ElementType
     requires { ⌜ TypeAt (now s) at ⌝ }
     ensures { λ r. ⌜ ElementTypeAt (now (s .entry)) at «mut_ref_only» r ⌝ }
 {
