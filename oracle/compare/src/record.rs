@@ -40,7 +40,7 @@ struct Sample {
     kinds: HashMap<Kind, usize>,
 }
 
-/// Writes a sample of `count` cases to the folder: the rows of document 01's table, then generated units, in rounds
+/// Writes a sample of `count` cases, or a few more, to the folder: the rows of document 01's table, then generated units, in rounds
 /// that keep one case of each kind, then two, then four and so on, until there are enough. What no short unit shows is
 /// looked for among longer ones after the first round.
 pub fn record(count: usize, seed: u64, folder: &Path) -> io::Result<()> {
