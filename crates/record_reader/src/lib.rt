@@ -244,7 +244,7 @@ pub fn read_body(s: &[u8], at: usize, command: u8) -> ReadTo
 // ── code ──
 
 // How many bytes follow each opcode.
-const OPERAND_WIDTHS: [usize; 71] = [
+const OPERAND_WIDTHS: [u8; 71] = [
     0, // Pop
     0, // Ret
     2, // BrTrue
@@ -322,7 +322,7 @@ pub fn operand_width(opcode: usize) -> usize
     requires { ⌜ opcode < 71 ⌝ }
     ensures { λ r. ⌜ r ≡ operandWidth opcode ⌝ }
 {
-    OPERAND_WIDTHS[opcode]
+    wide(OPERAND_WIDTHS[opcode])
 }
 
 // An opcode and its operands.

@@ -1,5 +1,5 @@
 -- The table of widths: one test that is computed over its 71 entries, carried to each.
-use mathlib.Core.Path.{_≡_}
+use mathlib.Core.Path.{_≡_, _∙_}
 use Prim.Native.Nat.{ℕ, _-_, _<_}
 use mathlib.Core.List.{List, [], _∷_}
 use lib.Dec.{eqb, eqb→eq}
@@ -21,7 +21,7 @@ width k h = eqb→eq (getD widths k 0) (operandWidth k) (at 0 (λ i w. eqb w (op
 
 returns : tie.Need-returns
 unfolding widths
-returns c = width (c .args .opcode) (c .pre)
+returns c = c .wide .ensures .0 ∙ width (c .before .args .opcode) (c .before .pre)
 
 pub operand-width-spec : {M : Type 1} → statement M
 operand-width-spec = tie.close (tie.spec (λ c. search needs) (λ c. search needs) returns)
