@@ -124,7 +124,7 @@ pub answer-back : (a : Result ℕ) → resultOf (abilitiesAnswer a) ≡ a
 answer-back (ok set) = refl
 answer-back (err status) = refl
 
-leaf-is : (hs : List StructHandle) (constraints : List ℕ) {t : SignatureToken} {b : ℕ} → IsLeaf t b → abilitiesIn hs constraints t ≡ ok (leafSet b)
+pub leaf-is : (hs : List StructHandle) (constraints : List ℕ) {t : SignatureToken} {b : ℕ} → IsLeaf t b → abilitiesIn hs constraints t ≡ ok (leafSet b)
 unfolding abilitiesIn
 leaf-is hs constraints is-bool = refl
 leaf-is hs constraints is-u8 = refl

@@ -52,7 +52,7 @@ fn struct_handle_at(handles: &[u16], h: StructHandleIndex) -> Place
 }
 
 // The abilities of a type with no type inside, by its command: only signer's are not those of all others.
-fn leaf_abilities(command: u8) -> AbilitySet
+pub fn leaf_abilities(command: u8) -> AbilitySet
     ensures { λ r. ⌜ r ≡ setOf (leafSet command) ⌝ }
 {
     if command == 6 {

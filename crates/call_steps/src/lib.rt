@@ -1,13 +1,13 @@
 // The steps of type_safety.rs that call a function: `call`, and Call and CallGeneric above it.
 use file_format::FunctionHandleIndex;
 use file_format::FunctionInstantiationIndex;
+use handle_views::FunctionHandle;
+use handle_views::FunctionHandleResult;
+use handle_views::FunctionInstantiationResult;
 use list_steps::Form;
 use status::StatusCode;
 use type_stack::Stepped;
 use unit::View;
-use unit_views::FunctionHandle;
-use unit_views::FunctionHandleResult;
-use unit_views::FunctionInstantiationResult;
 use unit_views::SignatureResult;
 ghost use Rattle.definitions.specs.Reader.{compiledUnit};
 ghost use Rattle.definitions.specs.TypeSafety as step;
@@ -15,7 +15,7 @@ ghost use Rattle.substitution.specs.Instantiate.{Arguments};
 ghost use Rattle.type_stack.specs.Held.{Stacked};
 ghost use Rattle.type_stack.specs.Stepping.{StepsTo};
 ghost use Rattle.unit.specs.Views.{UnitRead};
-ghost use Rattle.unit_views.specs.Answers.{handleOf};
+ghost use Rattle.handle_views.specs.Answers.{handleOf};
 
 // `call`: the parameters' signature is looked up before the first pop, the returns' only after all pops and comparisons. `args` are the
 // places of the type arguments.
@@ -66,7 +66,7 @@ pub fn function_call(
     requires { ⌜ UnitRead (now s) (now index) view ⌝ }
     ensures { λ r. ⌜ ((p : UnitRead (now (s .entry)) (now (index .entry)) view) → StepsTo (step.functionCall (compiledUnit (p .decoded)) (idx .0)) (now (area .entry)) weight (now (area .exit)) r) ⌝ }
 {
-    match unit_views::function_handle_at(s, index, view, idx) {
+    match handle_views::function_handle_at(s, index, view, idx) {
         FunctionHandleResult::Refused(status) => Stepped::Refused(status),
         FunctionHandleResult::Found(handle) => {
             call(area, weight, s, index, view, handle, &index[..0])
@@ -87,10 +87,10 @@ pub fn function_call_generic(
     requires { ⌜ UnitRead (now s) (now index) view ⌝ }
     ensures { λ r. ⌜ ((p : UnitRead (now (s .entry)) (now (index .entry)) view) → StepsTo (step.functionCallGeneric (compiledUnit (p .decoded)) (idx .0)) (now (area .entry)) weight (now (area .exit)) r) ⌝ }
 {
-    match unit_views::function_instantiation_at(s, index, view, idx) {
+    match handle_views::function_instantiation_at(s, index, view, idx) {
         FunctionInstantiationResult::Refused(status) => Stepped::Refused(status),
         FunctionInstantiationResult::Found(inst) => {
-            match unit_views::function_handle_at(s, index, view, inst.handle) {
+            match handle_views::function_handle_at(s, index, view, inst.handle) {
                 FunctionHandleResult::Refused(status) => Stepped::Refused(status),
                 FunctionHandleResult::Found(handle) => {
                     match unit_views::signature_at(s, index, view, inst.type_parameters) {
@@ -98,7 +98,7 @@ pub fn function_call_generic(
                         SignatureResult::Found(type_args) => {
                             let n = type_args.count;
                             let mut args = [0u16; 255];
-                            signature_token::type_places(s, type_args.at, n, &mut args);
+                            type_places::type_places(s, type_args.at, n, &mut args);
                             call(area, weight, s, index, view, handle, &args[..n])
                         }
                     }

@@ -14,9 +14,9 @@ use Rattle.definitions.specs.TypeSafety.{declaredFields}
 use Rattle.record_views.specs.declared.TypeList.{TypeList}
 use Rattle.record_views.specs.Records.{TypesIn, DefIs}
 use Rattle.signature_token.specs.Same.{Spans}
-use Rattle.signature_token.specs.Kinds.{ReferentAt}
-use Rattle.signature_token.specs.declared.Referent.{Referent}
-use Rattle.signature_token.specs.declared.Referent.the-variants as kind
+use Rattle.type_tests.specs.Kinds.{ReferentAt}
+use Rattle.type_tests.specs.declared.Referent.{Referent}
+use Rattle.type_tests.specs.declared.Referent.the-variants as kind
 use Rattle.type_stack.specs.Stepping.{StepsTo}
 use Rattle.type_stack.specs.declared.Stepped.{Stepped}
 use Rattle.unit_views.specs.Answers.{TypeIs}

@@ -10,10 +10,10 @@ use native.Mathlib.Omega.{arith}
 use denote.Enum.Declared.{tagOf}
 use Rattle.definitions.specs.SignatureToken.{SignatureToken}
 use Rattle.definitions.specs.Substitution.{inner, isMutableReference}
-use Rattle.signature_token.proofs.Referent.{the-type}
-use Rattle.signature_token.specs.declared.Referent.{Referent}
-use Rattle.signature_token.specs.declared.Referent.the-variants as kind
-use Rattle.signature_token.specs.Kinds.{ReferentAt}
+use Rattle.type_tests.proofs.Referent.{the-type}
+use Rattle.type_tests.specs.declared.Referent.{Referent}
+use Rattle.type_tests.specs.declared.Referent.the-variants as kind
+use Rattle.type_tests.specs.Kinds.{ReferentAt}
 use Rattle.signature_token.specs.Same.{Spans}
 use Rattle.type_stack.specs.Held.{Here}
 use Rattle.operand_steps.specs.Operands.{Refers, refers, refers-mutably, refers-not, inner-is, mutable-is, mutable-not, no-mutable}

@@ -10,11 +10,12 @@ use Rattle.record_views.specs.declared.StructDef.{StructDef}
 use Rattle.type_stack.specs.Stepping.{StepsTo, look-then, look-bad}
 use Rattle.type_stack.specs.declared.Stepped.{Stepped}
 use Rattle.type_stack.specs.declared.Stepped.the-variants as stepped
-use Rattle.unit_views.specs.declared.FieldHandle.{FieldHandle}
-use Rattle.unit_views.specs.declared.FieldHandleResult.{FieldHandleResult}
+use Rattle.handle_views.specs.declared.FieldHandle.{FieldHandle}
+use Rattle.handle_views.specs.declared.FieldHandleResult.{FieldHandleResult}
 use Rattle.unit_views.specs.declared.StructDefResult.{StructDefResult}
-use Rattle.unit_views.specs.Answers.{fieldHandleAnswer, StructDefIs}
-use Rattle.unit_views.specs.Told.{field-handle, is-told}
+use Rattle.handle_views.specs.Answers.{fieldHandleAnswer}
+use Rattle.unit_views.specs.Answers.{StructDefIs}
+use Rattle.handle_views.specs.Told.{field-handle, is-told}
 use Rattle.unit_views.specs.Answers.{def-found, def-refused}
 use Rattle.field_steps.specs.Borrows.{FieldOwner, fieldOwner, OwnerAnswers, ownerAnswer, OwnerIs, OwnerAt}
 use Rattle.field_steps.specs.declared.Owner.{Owner}

@@ -2,16 +2,16 @@
 // refused before the field handle is looked up; a value where any reference would do, after it.
 use file_format::FieldHandleIndex;
 use file_format::FieldInstantiationIndex;
+use handle_views::FieldHandleResult;
+use handle_views::FieldInstantiationResult;
 use record_views::Fields;
 use record_views::StructDef;
 use record_views::TypeList;
-use signature_token::Referent;
 use status::StatusCode;
 use type_stack::Stepped;
 use type_stack::Top;
+use type_tests::Referent;
 use unit::View;
-use unit_views::FieldHandleResult;
-use unit_views::FieldInstantiationResult;
 use unit_views::SignatureResult;
 use unit_views::StructDefResult;
 use unit_views::TypeResult;
@@ -51,7 +51,7 @@ fn borrowed_at(area: &[u8], at: usize, mutable: bool) -> Borrowed
     requires { ⌜ TypeAt (now area) at ⌝ }
     ensures { λ r. ⌜ BorrowedAt mutable (now (area .entry)) at r ⌝ }
 {
-    match signature_token::referent_at(area, at) {
+    match type_tests::referent_at(area, at) {
         Referent::MutableReference(inner) => Borrowed::Inner(inner),
         Referent::Reference(inner) => {
             if mutable {
@@ -119,7 +119,7 @@ fn borrow_from(
         TypeResult::Found(place) => {
             let n = type_args.count;
             let mut args = [0u16; 255];
-            signature_token::type_places(s, type_args.at, n, &mut args);
+            type_places::type_places(s, type_args.at, n, &mut args);
             made_types::push_field_reference(area, start, mutable, s, place, &args[..n])
         }
     }
@@ -130,7 +130,7 @@ fn field_owner(s: &[u8], index: &[u16], view: View, idx: FieldHandleIndex) -> Ow
     requires { ⌜ UnitRead (now s) (now index) view ⌝ }
     ensures { λ r. ⌜ ((p : UnitRead (now (s .entry)) (now (index .entry)) view) → OwnerIs (now (s .entry)) (fieldOwner (compiledUnit (p .decoded)) (idx .0)) r) ⌝ }
 {
-    match unit_views::field_handle_at(s, index, view, idx) {
+    match handle_views::field_handle_at(s, index, view, idx) {
         FieldHandleResult::Refused(status) => OwnerResult::Refused(status),
         FieldHandleResult::Found(handle) => {
             match unit_views::struct_def_at(s, index, view, handle.owner) {
@@ -195,7 +195,7 @@ pub fn borrow_field_generic(
     requires { ⌜ UnitRead (now s) (now index) view ⌝ }
     ensures { λ r. ⌜ ((p : UnitRead (now (s .entry)) (now (index .entry)) view) → StepsTo (step.borrowFieldGeneric (compiledUnit (p .decoded)) mutable (idx .0)) (now (area .entry)) weight (now (area .exit)) r) ⌝ }
 {
-    match unit_views::field_instantiation_at(s, index, view, idx) {
+    match handle_views::field_instantiation_at(s, index, view, idx) {
         FieldInstantiationResult::Refused(status) => Stepped::Refused(status),
         FieldInstantiationResult::Found(inst) => {
             match unit_views::signature_at(s, index, view, inst.type_parameters) {

@@ -18,8 +18,8 @@ use Rattle.record_views.specs.Records.{instructionOf, TypesIn}
 use Rattle.record_views.specs.declared.Instruction.{Instruction}
 use Rattle.unit.specs.declared.View.{View}
 use Rattle.unit.specs.Views.{UnitRead}
-use Rattle.unit_views.specs.Tables.{unit-short}
-use Rattle.unit_views.specs.Answers.{InstructionAt}
+use Rattle.unit_tables.specs.Tables.{unit-short}
+use Rattle.code_views.specs.Answers.{InstructionAt}
 use Rattle.step_views.specs.Structs.{StructWithIs, StructLooked}
 use Rattle.step_views.specs.declared.StructWithResult.{StructWithResult}
 use Rattle.signature_token.specs.TokenLaws.{is-u8, is-u64, is-u128}
@@ -29,11 +29,11 @@ use Rattle.operand_steps.specs.Leaves.{CastsTo}
 use Rattle.type_stack.specs.declared.Stepped.{Stepped}
 
 -- the step of the instruction with this opcode and these operands
-abbrev pub StepOf : CompiledUnit → ℕ → ℕ → ℕ → List ℕ → ℕ → List ℕ → Stepped → Type 0
-StepOf u opcode x n a w b r = StepsTo (verifyInstr u (instructionOf opcode x n)) a w b r
+abbrev pub StepOf : CompiledUnit → ℕ → ℕ → ℕ → ℕ → List ℕ → ℕ → List ℕ → Stepped → Type 0
+StepOf u opcode l x n a w b r = StepsTo (verifyInstr u (instructionOf opcode l x n)) a w b r
 
 pub record Does (u : CompiledUnit) (i : Instruction) (a : List ℕ) (w : ℕ) (b : List ℕ) (r : Stepped) : Type 0 where
-  pub steps : StepOf u (i .opcode) (i .operand) (i .count) a w b r
+  pub steps : StepOf u (i .opcode) (i .local) (i .operand) (i .count) a w b r
 
 -- the step of the i-th instruction of the code
 pub record DoesAt (u : CompiledUnit) (i : ℕ) (a : List ℕ) (w : ℕ) (b : List ℕ) (r : Stepped) : Type 0 where
@@ -89,21 +89,21 @@ by-arm ks P lo (suc n) e k r h l = go (ℕ-discrete k lo) (λ i. by-arm ks P (su
     go (no i) f = f i
 
 module _ {u : CompiledUnit} {i : ℕ} {it : Instruction} (k : InstructionAt u i it) {a b : List ℕ} {w : ℕ} {r : Stepped} where
-  pub does-at : StepOf u (it .opcode) (it .operand) (it .count) a w b r → DoesAt u i a w b r
+  pub does-at : StepOf u (it .opcode) (it .local) (it .operand) (it .count) a w b r → DoesAt u i a w b r
   does-at h = record { instruction = _; stands = k .is; steps = h }
 
   -- by the arm of one opcode
-  pub key-at : (opcode : ℕ) → it .opcode ≡ opcode → StepOf u opcode (it .operand) (it .count) a w b r → DoesAt u i a w b r
+  pub key-at : (opcode : ℕ) → it .opcode ≡ opcode → StepOf u opcode (it .local) (it .operand) (it .count) a w b r → DoesAt u i a w b r
   key-at opcode e h = does-at (rw e h)
 
   -- by the arm of a range, of which `keys` have arms of their own
   pub arm-at :
-      (keys : List ℕ) (lo n : ℕ) → Each keys (λ o. StepOf u o (it .operand) (it .count) a w b r) lo n → NoneOf keys (it .opcode) → lo ≤ it .opcode →
+      (keys : List ℕ) (lo n : ℕ) → Each keys (λ o. StepOf u o (it .local) (it .operand) (it .count) a w b r) lo n → NoneOf keys (it .opcode) → lo ≤ it .opcode →
       it .opcode < lo + n → DoesAt u i a w b r
-  arm-at keys lo n e z h l = does-at (by-arm keys (λ o. StepOf u o (it .operand) (it .count) a w b r) lo n e (it .opcode) z h l)
+  arm-at keys lo n e z h l = does-at (by-arm keys (λ o. StepOf u o (it .local) (it .operand) (it .count) a w b r) lo n e (it .opcode) z h l)
 
 module _ {u : CompiledUnit} {it : Instruction} {a b : List ℕ} {w : ℕ} {r : Stepped} where
-  pub key-does : (opcode : ℕ) → it .opcode ≡ opcode → StepOf u opcode (it .operand) (it .count) a w b r → Does u it a w b r
+  pub key-does : (opcode : ℕ) → it .opcode ≡ opcode → StepOf u opcode (it .local) (it .operand) (it .count) a w b r → Does u it a w b r
   key-does opcode e h = record { steps = rw e h }
 
 -- steps that one range's opcodes tell apart
@@ -112,7 +112,7 @@ module _ {u : CompiledUnit} {it : Instruction} {a b : List ℕ} {w : ℕ} {r : S
   pub load-does : Between 5 7 it → PushesTo ((2 + (it .opcode - 5)) ∷ []) a w b r → Does u it a w b r
   unfolding instructionOf verifyInstr Each encode
   load-does z h = record {
-    steps = by-arm [] (λ o. PushesTo ((2 + (o - 5)) ∷ []) a w b r → StepOf u o (it .operand) (it .count) a w b r) 5 3 ((λ q. q .steps U8 refl), ((λ q. q .steps U64 refl), ((λ q. q .steps U128 refl), tt)))
+    steps = by-arm [] (λ o. PushesTo ((2 + (o - 5)) ∷ []) a w b r → StepOf u o (it .local) (it .operand) (it .count) a w b r) 5 3 ((λ q. q .steps U8 refl), ((λ q. q .steps U64 refl), ((λ q. q .steps U128 refl), tt)))
         (it .opcode) tt (z .from) (omega (arith, z .to)) h;
   }
 
@@ -120,15 +120,15 @@ module _ {u : CompiledUnit} {it : Instruction} {a b : List ℕ} {w : ℕ} {r : S
   pub cast-does : Between 8 10 it → CastsTo (2 + (it .opcode - 8)) a w b r → Does u it a w b r
   unfolding instructionOf verifyInstr Each
   cast-does z h = record {
-    steps = by-arm [] (λ o. CastsTo (2 + (o - 8)) a w b r → StepOf u o (it .operand) (it .count) a w b r) 8 3 ((λ q. q .steps U8 is-u8), ((λ q. q .steps U64 is-u64), ((λ q. q .steps U128 is-u128), tt)))
+    steps = by-arm [] (λ o. CastsTo (2 + (o - 8)) a w b r → StepOf u o (it .local) (it .operand) (it .count) a w b r) 8 3 ((λ q. q .steps U8 is-u8), ((λ q. q .steps U64 is-u64), ((λ q. q .steps U128 is-u128), tt)))
         (it .opcode) tt (z .from) (omega (arith, z .to)) h;
   }
 
   -- MutBorrowLoc, ImmBorrowLoc
-  pub borrow-does : Between 26 27 it → StepsTo (borrowLoc u (eqb (it .opcode) 26) (it .operand)) a w b r → Does u it a w b r
+  pub borrow-does : Between 26 27 it → StepsTo (borrowLoc u (eqb (it .opcode) 26) (it .local)) a w b r → Does u it a w b r
   unfolding instructionOf verifyInstr Each
   borrow-does z h = record {
-    steps = by-arm [] (λ o. StepsTo (borrowLoc u (eqb o 26) (it .operand)) a w b r → StepOf u o (it .operand) (it .count) a w b r) 26 2 ((λ q. q), ((λ q. q), tt)) (it .opcode) tt (z .from)
+    steps = by-arm [] (λ o. StepsTo (borrowLoc u (eqb o 26) (it .local)) a w b r → StepOf u o (it .local) (it .operand) (it .count) a w b r) 26 2 ((λ q. q), ((λ q. q), tt)) (it .opcode) tt (z .from)
         (omega (arith, z .to)) h;
   }
 

@@ -44,11 +44,11 @@ fn local_instr(
     requires { ⌜ Stacked (now area) weight ⌝ }
     requires { ⌜ UnitRead (now s) (now index) view ⌝ }
     requires { ⌜ LocalPlaces (now s) (now index) view (now parameters) (now locals) ⌝ }
-    requires { ⌜ Between 14 16 instruction × (instruction .operand < 256) ⌝ }
+    requires { ⌜ Between 14 16 instruction ⌝ }
     ensures { λ r. ⌜ ((p : UnitRead (now (s .entry)) (now (index .entry)) view) → Does (compiledUnit (p .decoded)) instruction (now (area .entry)) weight (now (area .exit)) r) ⌝ }
 {
     let opcode = instruction.opcode;
-    let idx = LocalIndex(instruction.operand as u8);
+    let idx = LocalIndex(instruction.local);
     match opcode {
         14 => local_steps::copy_loc(area, weight, s, index, view, parameters, locals, idx),
         15 => local_steps::move_loc(area, weight, s, index, view, parameters, locals, idx),
@@ -70,13 +70,13 @@ fn borrow_loc_instr(
     requires { ⌜ Stacked (now area) weight ⌝ }
     requires { ⌜ UnitRead (now s) (now index) view ⌝ }
     requires { ⌜ LocalPlaces (now s) (now index) view (now parameters) (now locals) ⌝ }
-    requires { ⌜ Between 26 27 instruction × (instruction .operand < 256) ⌝ }
+    requires { ⌜ Between 26 27 instruction ⌝ }
     ensures { λ r. ⌜ ((p : UnitRead (now (s .entry)) (now (index .entry)) view) → Does (compiledUnit (p .decoded)) instruction (now (area .entry)) weight (now (area .exit)) r) ⌝ }
 {
     let opcode = instruction.opcode;
-    let idx = LocalIndex(instruction.operand as u8);
+    let idx = LocalIndex(instruction.local);
     let mutable = opcode == 26;
-    local_steps::borrow_loc(
+    reference_steps::borrow_loc(
         area,
         weight,
         s,
@@ -202,10 +202,10 @@ fn global_instr(
     let inst = StructDefInstantiationIndex(instruction.operand);
     let none = TypeList { at: 0, count: 0 };
     match opcode {
-        32 => resource_steps::borrow_global(area, weight, s, index, view, true, def, none),
-        33 => resource_steps::borrow_global_generic(area, weight, s, index, view, true, inst),
-        34 => resource_steps::borrow_global(area, weight, s, index, view, false, def, none),
-        _ => resource_steps::borrow_global_generic(area, weight, s, index, view, false, inst),
+        32 => global_steps::borrow_global(area, weight, s, index, view, true, def, none),
+        33 => global_steps::borrow_global_generic(area, weight, s, index, view, true, inst),
+        34 => global_steps::borrow_global(area, weight, s, index, view, false, def, none),
+        _ => global_steps::borrow_global_generic(area, weight, s, index, view, false, inst),
     }
 }
 
@@ -272,13 +272,13 @@ fn vector_instr(
     let idx = SignatureIndex(instruction.operand);
     let n = instruction.count;
     match opcode {
-        63 => vector_steps::vec_pack(area, weight, s, index, view, idx, n),
+        63 => vector_pack_steps::vec_pack(area, weight, s, index, view, idx, n),
         64 => vector_steps::vec_len(area, weight, s, index, view, idx),
-        65 => vector_steps::borrow_vector_element(area, weight, s, index, view, idx, false),
-        66 => vector_steps::borrow_vector_element(area, weight, s, index, view, idx, true),
+        65 => vector_borrow_steps::borrow_vector_element(area, weight, s, index, view, idx, false),
+        66 => vector_borrow_steps::borrow_vector_element(area, weight, s, index, view, idx, true),
         67 => vector_steps::vec_push_back(area, weight, s, index, view, idx),
         68 => vector_steps::vec_pop_back(area, weight, s, index, view, idx),
-        69 => vector_steps::vec_unpack(area, weight, s, index, view, idx, n),
+        69 => vector_pack_steps::vec_unpack(area, weight, s, index, view, idx, n),
         _ => vector_steps::vec_swap(area, weight, s, index, view, idx),
     }
 }
@@ -300,35 +300,35 @@ pub fn verify_instr(
     requires { ⌜ i < view .code .count ⌝ }
     ensures { λ r. ⌜ ((p : UnitRead (now (s .entry)) (now (index .entry)) view) → DoesAt (compiledUnit (p .decoded)) i (now (area .entry)) weight (now (area .exit)) r) ⌝ }
 {
-    let it = unit_views::instruction_at(s, index, view, i);
+    let it = code_views::instruction_at(s, index, view, i);
     let opcode = it.opcode;
     match opcode {
-        0 => local_steps::pop_step(area, weight, s, index, view),
+        0 => drop_steps::pop_step(area, weight, s, index, view),
         1 => list_steps::ret_step(area, weight, s, index, view),
         2..=3 => operand_steps::pop_leaf(area, weight, 1, StatusCode::BR_TYPE_MISMATCH_ERROR),
         4 => Stepped::Next(weight), // Branch
-        5..=7 => type_stack::push_leaf(area, weight, integer_type(opcode - 5)),
+        5..=7 => type_pushes::push_leaf(area, weight, integer_type(opcode - 5)),
         8..=10 => operand_steps::cast(area, weight, integer_type(opcode - 8)),
         11 => { local_steps::ld_const(area, weight, s, index, view, ConstantPoolIndex(it.operand)) }
-        12..=13 => type_stack::push_leaf(area, weight, 1),
+        12..=13 => type_pushes::push_leaf(area, weight, 1),
         14..=16 => local_instr(area, weight, s, index, view, parameters, locals, it),
         17..=18 => call_instr(area, weight, s, index, view, it),
         19..=22 => struct_instr(area, weight, s, index, view, it),
-        23 => local_steps::read_ref(area, weight, s, index, view),
-        24 => local_steps::write_ref(area, weight, s, index, view),
+        23 => reference_steps::read_ref(area, weight, s, index, view),
+        24 => reference_steps::write_ref(area, weight, s, index, view),
         25 => operand_steps::freeze_ref(area, weight),
         26..=27 => borrow_loc_instr(area, weight, s, index, view, parameters, locals, it),
         28..=31 => field_instr(area, weight, s, index, view, it),
         32..=35 => global_instr(area, weight, s, index, view, it),
-        36..=43 => operand_steps::arithmetic(area, weight),
-        44..=45 => operand_steps::logical(area, weight),
+        36..=43 => pair_steps::arithmetic(area, weight),
+        44..=45 => pair_steps::logical(area, weight),
         46 => operand_steps::negation(area, weight),
-        47..=48 => local_steps::equality(area, weight, s, index, view),
-        49..=52 => operand_steps::comparison(area, weight),
+        47..=48 => drop_steps::equality(area, weight, s, index, view),
+        49..=52 => pair_steps::comparison(area, weight),
         53 => operand_steps::pop_leaf(area, weight, 3, StatusCode::ABORT_TYPE_MISMATCH_ERROR),
         54 => Stepped::Next(weight), // Nop
         55..=60 => resource_instr(area, weight, s, index, view, it),
-        61..=62 => operand_steps::shift(area, weight),
+        61..=62 => pair_steps::shift(area, weight),
         _ => vector_instr(area, weight, s, index, view, it),
     }
 }

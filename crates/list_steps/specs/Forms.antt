@@ -11,9 +11,9 @@ use Rattle.definitions.specs.Places.{TypeAt}
 use Rattle.record_views.specs.declared.TypeList.{TypeList}
 use Rattle.record_views.specs.Records.{TypesIn}
 use Rattle.signature_token.specs.Same.{Spans}
-use Rattle.substitution.specs.declared.Comparison.{Comparison}
+use Rattle.substitution_comparison.specs.declared.Comparison.{Comparison}
 use Rattle.substitution.specs.Instantiate.{Arguments}
-use Rattle.substitution.specs.Compare.{compared}
+use Rattle.substitution_comparison.specs.Compare.{compared}
 use Rattle.type_stack.specs.Stepping.{StepsTo}
 use Rattle.type_stack.specs.declared.Stepped.{Stepped}
 use Rattle.list_steps.specs.declared.Form.{Form}

@@ -15,10 +15,10 @@ use Rattle.definitions.specs.Machine.{Step, _>>=_, pop, push, look, check, popO
 use Rattle.definitions.specs.Places.{TypesAt, Standing}
 use Rattle.theorems.specs.Bytes.{listOf-arguments}
 use Rattle.theorems.specs.Lookups.{used}
-use Rattle.signature_token.specs.Lists.{PlacesAt}
+use Rattle.type_places.specs.Places.{PlacesAt}
 use Rattle.record_views.specs.declared.TypeList.{TypeList}
 use Rattle.record_views.specs.Records.{TypesIn}
-use Rattle.record_views.specs.Reread.{count-arguments}
+use Rattle.record_views.specs.Reread.{types-at}
 use Rattle.substitution.specs.declared.Size.{Size}
 use Rattle.substitution.specs.declared.Size.the-variants.{Bytes, Past}
 use Rattle.substitution.specs.Instantiate.{Arguments, filledAll}
@@ -84,14 +84,11 @@ module _ {s : List ℕ} {list : TypeList} {args a : List ℕ} {w : ℕ} {r : Ste
 -- ── a list in the unit ──
 
 module _ {s : List ℕ} {list : TypeList} (q : TypesIn s list) where
-  abbrev pub list-types : TypesAt s (list .at) (list .count)
-  list-types = record { types = arguments (q .types); counted = count-arguments (q .types) ∙ sym (q .are .counted); stands = q .are .stands }
-
   pub list-small : list .count ≤ 255
   list-small = omega (arith, q .are .small)
 
   pub list-standing : {out : List ℕ} {e : ℕ} → PlacesAt s (list .at) (list .count) out e → Standing s (take (list .count) out) (q .types)
-  list-standing p = rw (listOf-arguments (q .types)) at (p .standing list-types)
+  list-standing p = rw (listOf-arguments (q .types)) at (p .standing (types-at q))
 
   -- the types of a list, where their places are found, as arguments
   abbrev pub arguments-of : {out : List ℕ} {e : ℕ} → PlacesAt s (list .at) (list .count) out e → Arguments s (take (list .count) out)
@@ -117,7 +114,7 @@ told Past = answer.Past
 
 pub sizes-tell : {s : List ℕ} {list : TypeList} {args : List ℕ} {z : Size} → SizesFrom s (list .at) (list .count) s args 0 z → (v : Size) → z ≡ v → InstantiatesEach s list args (told v)
 unfolding filledAll sizeFrom _>>?_
-sizes-tell {s} {list} {args} m v e = record { is = λ p q. ap told (sym e ∙ m .is (list-types p) q) ∙ rw (each-all (p .types) (q .subst)) (go _ (instantiateEach (p .types) (q .subst))) }
+sizes-tell {s} {list} {args} m v e = record { is = λ p q. ap told (sym e ∙ m .is (types-at p) q) ∙ rw (each-all (p .types) (q .subst)) (go _ (instantiateEach (p .types) (q .subst))) }
   where
     go : (end : ℕ) (r : Result Signature) → told (sizeFrom 0 end ((r >>? λ us. ok (arguments us)) >>? λ us. ok (encodeAll us))) ≡ instantiatesOf r
     go end (ok us) = refl

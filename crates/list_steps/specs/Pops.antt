@@ -13,10 +13,10 @@ use Rattle.definitions.specs.SignatureToken.{SignatureToken, Signature, same}
 use Rattle.definitions.specs.Machine.{_>>=_, look, check, popOne, popEach, run}
 use Rattle.definitions.specs.Places.{TypeAt, Standing, none, more}
 use Rattle.signature_token.specs.Same.{Spans, SameAt}
-use Rattle.substitution.specs.declared.Comparison.{Comparison}
-use Rattle.substitution.specs.declared.Comparison.the-variants.{Same, Differs, Past}
+use Rattle.substitution_comparison.specs.declared.Comparison.{Comparison}
+use Rattle.substitution_comparison.specs.declared.Comparison.the-variants.{Same, Differs, Past}
 use Rattle.substitution.specs.Instantiate.{Arguments}
-use Rattle.substitution.specs.Compare.{ComparedAt, compared}
+use Rattle.substitution_comparison.specs.Compare.{ComparedAt, compared}
 use Rattle.substitution.specs.Past.{instantiate-past}
 use Rattle.type_stack.specs.Held.{Stacked, Holds}
 use Rattle.type_stack.specs.Tops.{TopOf, topped}

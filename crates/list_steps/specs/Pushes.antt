@@ -18,12 +18,11 @@ use Rattle.record_views.specs.declared.TypeList.{TypeList}
 use Rattle.record_views.specs.Records.{TypesIn}
 use Rattle.substitution.specs.declared.Size.{Size}
 use Rattle.substitution.specs.declared.Size.the-variants.{Bytes, Past}
-use Rattle.substitution.specs.Instantiate.{Arguments, filled}
-use Rattle.substitution.specs.Compare.{instantiated}
+use Rattle.substitution.specs.Instantiate.{Arguments, filled, instantiated}
 use Rattle.substitution.specs.Filling.{Room}
 use Rattle.substitution.specs.Size.{SizeAt, capped, past, was}
-use Rattle.substitution.specs.Write.{WroteAt}
-use Rattle.substitution.specs.Past.{instantiate-past}
+use Rattle.substitution_writer.specs.Write.{WroteAt}
+use Rattle.substitution.specs.Past.{not-instantiated}
 use Rattle.type_stack.specs.Spliced.{spliced, length-spliced, lent}
 use Rattle.type_stack.specs.Held.{Holds, Stacked, entered, length-entry}
 use Rattle.type_stack.specs.Pushing.{sealed, push-entered}
@@ -98,15 +97,6 @@ turn-next : {s : List ℕ} {n p i e : ℕ} {T T′ : Signature → Type 0} (k : 
 turn-next k e z = record { others = k .rest; counted = k .counted; stands = rw e (k .stands); state = z }
 
 -- ── a size at its turn ──
-
--- nothing is made of a type
-not-instantiated : (t : SignatureToken) (subst : Signature) {y : StatusCode} → filled t subst ≡ err y → instantiate t subst ≡ err «OUT_OF_TABLE»
-unfolding filled _>>?_
-not-instantiated t subst {y} e = go (instantiate t subst) refl e
-  where
-    go : (r : Result SignatureToken) → instantiate t subst ≡ r → (r >>? λ u. ok (encode u)) ≡ err y → r ≡ err «OUT_OF_TABLE»
-    go (ok u) i j = let z : _≡_ {A = ℕ} 0 1 = cc in absurd (omega arith)
-    go (err z) i j = ap err (instantiate-past t subst i)
 
 -- of the type t at p, which ends at `next`, a type of len bytes is made
 record Sized (t : SignatureToken) (subst : Signature) (p next len : ℕ) : Type 0 where

@@ -3,8 +3,8 @@
 // as they stand. Pushes are weighed, all of them, before the first is written.
 use record_views::TypeList;
 use status::StatusCode;
-use substitution::Comparison;
 use substitution::Size;
+use substitution_comparison::Comparison;
 use type_stack::Stepped;
 use type_stack::Top;
 use unit::View;
@@ -54,9 +54,17 @@ fn compare(
     ensures { λ r. ⌜ FormComparedAt form (now (area .entry)) start len (now (s .entry)) at (now (args .entry)) r ⌝ }
 {
     match form {
-        Form::Instantiated => substitution::compare_instantiated(area, start, len, s, at, s, args),
+        Form::Instantiated => substitution_comparison::compare_instantiated(
+            area,
+            start,
+            len,
+            s,
+            at,
+            s,
+            args,
+        ),
         Form::Written => {
-            if signature_token::same_type(area, start, len, s, at) {
+            if type_tests::same_type(area, start, len, s, at) {
                 Comparison::Same
             } else {
                 Comparison::Differs
@@ -145,7 +153,7 @@ pub fn pop_each(
 {
     let n = list.count;
     let mut places = [0u16; 255];
-    signature_token::type_places(s, list.at, n, &mut places);
+    type_places::type_places(s, list.at, n, &mut places);
     pop_places(area, weight, s, &places[..n], form, args, status)
 }
 
@@ -155,7 +163,7 @@ pub fn ret_step(area: &[u8], weight: usize, s: &[u8], index: &[u16], view: View)
     requires { ⌜ UnitRead (now s) (now index) view ⌝ }
     ensures { λ r. ⌜ ((p : UnitRead (now (s .entry)) (now (index .entry)) view) → StepsTo (step.retStep (compiledUnit (p .decoded))) (now (area .entry)) weight (now (area .entry)) r) ⌝ }
 {
-    let returns = unit_views::returns(s, index, view);
+    let returns = function_views::returns(s, index, view);
     let status = StatusCode::RET_TYPE_MISMATCH_ERROR;
     pop_each(area, weight, s, returns, Form::Written, &index[..0], status)
 }
@@ -216,8 +224,8 @@ fn write_each(area: &mut [u8], weight: usize, s: &[u8], list: TypeList, args: &[
         let Size::Bytes { next, len } = size else {
             return end; // not reached: every type that was weighed has a size
         };
-        substitution::instantiate_into(&mut area[end..], s, at, s, args);
-        end = type_stack::seal(area, end, len);
+        substitution_writer::instantiate_into(&mut area[end..], s, at, s, args);
+        end = type_pushes::seal(area, end, len);
         at = next;
         i += 1;
     }

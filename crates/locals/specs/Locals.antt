@@ -15,7 +15,7 @@ use Rattle.definitions.specs.CompiledUnit as defs
 use Rattle.definitions.specs.Reader.{compiledUnit}
 use Rattle.definitions.specs.Places.{Standing}
 use Rattle.theorems.specs.Bytes.{listOf-arguments}
-use Rattle.signature_token.specs.Lists.{PlacesAt}
+use Rattle.type_places.specs.Places.{PlacesAt}
 use Rattle.record_views.specs.declared.TypeList.{TypeList}
 use Rattle.record_views.specs.Records.{TypesIn}
 use Rattle.record_views.specs.Reread.{types-at}

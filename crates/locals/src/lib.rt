@@ -73,7 +73,7 @@ fn places_of(s: &[u8], types: TypeList, out: &mut [u16]) -> usize
     requires { ⌜ (255 ≤ length (now out)) × (length (now s) ≤ 32768) ⌝ }
     ensures { λ r. ⌜ ((q : TypesIn (now (s .entry)) types) → PlacesIn (now (s .entry)) (q .types) (now (out .exit)) r) ⌝ }
 {
-    signature_token::type_places(s, types.at, types.count, out);
+    type_places::type_places(s, types.at, types.count, out);
     types.count
 }
 
@@ -83,7 +83,7 @@ pub fn parameter_places(s: &[u8], index: &[u16], view: View, out: &mut [u16]) ->
     requires { ⌜ 255 ≤ length (now out) ⌝ }
     ensures { λ r. ⌜ ParameterPlaces (now (s .entry)) (now (index .entry)) view (now (out .exit)) r ⌝ }
 {
-    places_of(s, unit_views::parameters(s, index, view), out)
+    places_of(s, function_views::parameters(s, index, view), out)
 }
 
 // The same of its other locals.
@@ -92,5 +92,5 @@ pub fn local_places(s: &[u8], index: &[u16], view: View, out: &mut [u16]) -> usi
     requires { ⌜ 255 ≤ length (now out) ⌝ }
     ensures { λ r. ⌜ OtherPlaces (now (s .entry)) (now (index .entry)) view (now (out .exit)) r ⌝ }
 {
-    places_of(s, unit_views::locals(s, index, view), out)
+    places_of(s, function_views::locals(s, index, view), out)
 }

@@ -14,10 +14,6 @@ use Rattle.substitution.specs.Instantiate.{Arguments}
 use Rattle.type_stack.specs.Stepping.{StepsTo}
 use Rattle.type_stack.specs.declared.Stepped.{Stepped}
 
--- the first byte of a reference
-pub record ReferenceCommand (m : Bool) (r : ℕ) : Type 0 where
-  pub is : (t : SignatureToken) → encode (referenceTo m t) ≡ r ∷ encode t
-
 -- r says whether the type of len bytes at x of a is the struct with the type arguments of the list
 pub record StructIs (a : List ℕ) (x len : ℕ) (s : List ℕ) (h : ℕ) (list : TypeList) (r : Bool) : Type 0 where
   pub is : (p : Spans a x len) (q : TypesIn s list) → r ≡ same (p .type) (materializeType h (q .types))

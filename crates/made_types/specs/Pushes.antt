@@ -20,29 +20,18 @@ use Rattle.record_views.specs.declared.TypeList.{TypeList}
 use Rattle.record_views.specs.Records.{TypesIn}
 use Rattle.record_views.specs.Reread.{types-at}
 use Rattle.substitution.specs.declared.Size.the-variants.{Bytes, Past}
-use Rattle.substitution.specs.Instantiate.{Arguments, filled}
-use Rattle.substitution.specs.Past.{instantiate-past}
+use Rattle.substitution.specs.Instantiate.{Arguments, filled, Instantiated, instantiated}
+use Rattle.substitution.specs.Past.{not-instantiated}
 use Rattle.substitution.specs.Size.{SizeAt, past, size-filling, size-long}
-use Rattle.substitution.specs.Write.{WroteAt}
-use Rattle.substitution.specs.Compare.{Instantiated, instantiated}
-use Rattle.substitution.specs.Materialize.{commandLength, length-short, ArgumentList, materialized, laid-long, MaterializedSize, StructRoom, MaterializedInto, MaterializedSame}
+use Rattle.substitution_writer.specs.Write.{WroteAt}
+use Rattle.materialize_type.specs.Materialize.{commandLength, length-short, ArgumentList, materialized, laid-long, MaterializedSize, StructRoom, MaterializedInto, MaterializedSame}
 use Rattle.type_stack.specs.Spliced.{spliced, over, length-spliced}
 use Rattle.type_stack.specs.Held.{Stacked}
 use Rattle.type_stack.specs.Stepping.{StepsTo, push-full, look-then, look-bad}
 use Rattle.type_stack.specs.Pushing.{push-lent, push-lent-under}
 use Rattle.type_stack.specs.declared.Stepped.the-variants.{Next, Refused}
-use Rattle.made_types.specs.Made.{ReferenceCommand, StructIs, PushesStruct, PushesStructReference, PushesFieldReference}
-
--- ── the command of a reference ──
-
-module _ {m : Bool} where
-  pub mutable-command : m ≡ true → ReferenceCommand m 0x0B
-  unfolding encode referenceTo
-  mutable-command e = rw e (record { is = λ t. refl })
-
-  pub immutable-command : m ≡ false → ReferenceCommand m 0x0A
-  unfolding encode referenceTo
-  immutable-command e = rw e (record { is = λ t. refl })
+use Rattle.type_pushes.specs.References.{ReferenceCommand}
+use Rattle.made_types.specs.Made.{StructIs, PushesStruct, PushesStructReference, PushesFieldReference}
 
 -- a reference takes one byte more
 reference-long : (m : Bool) (t : SignatureToken) → length (encode (referenceTo m t)) ≡ length (encode t) + 1
@@ -148,15 +137,6 @@ module _ {s : List ℕ} {list : TypeList} {end : ℕ} (e : EndOfTypes s (list .a
         struct-reference-pushed r y k = record { steps = λ q. push-filled-under (materializeType h (q .types)) (struct-long h q) r y (struct-filled k q) }
 
 -- ── a field's type ──
-
--- nothing is made of it
-not-instantiated : (t : SignatureToken) (subst : Signature) {y : StatusCode} → filled t subst ≡ err y → instantiate t subst ≡ err «OUT_OF_TABLE»
-unfolding filled _>>?_
-not-instantiated t subst {y} e = go (instantiate t subst) refl e
-  where
-    go : (r : Result SignatureToken) → instantiate t subst ≡ r → (r >>? λ u. ok (encode u)) ≡ err y → r ≡ err «OUT_OF_TABLE»
-    go (ok u) i k = let z : _≡_ {A = ℕ} 0 1 = cc in absurd (omega arith)
-    go (err z) i k = ap err (instantiate-past t subst i)
 
 -- what is made of it
 field-made :

@@ -12,17 +12,7 @@ ghost use Rattle.record_views.specs.Records.{TypesIn};
 ghost use Rattle.signature_token.specs.Same.{Spans};
 ghost use Rattle.substitution.specs.Instantiate.{Arguments};
 ghost use Rattle.type_stack.specs.Held.{Stacked};
-ghost use Rattle.made_types.specs.Made.{StructIs, PushesStruct, PushesStructReference, PushesFieldReference, ReferenceCommand};
-
-// The command of a reference, mutable or not.
-fn reference_command(mutable: bool) -> u8
-    ensures { λ r. ⌜ ReferenceCommand mutable r ⌝ }
-{
-    if mutable {
-        return 0x0B;
-    }
-    0x0A
-}
+ghost use Rattle.made_types.specs.Made.{StructIs, PushesStruct, PushesStructReference, PushesFieldReference};
 
 // Whether the type of len bytes at `at` of the area is the struct with these type arguments.
 pub fn struct_is(
@@ -40,7 +30,7 @@ pub fn struct_is(
     let first = type_args.at;
     let n = type_args.count;
     let end = signature_token::end_of_types(s, first, n);
-    substitution::same_materialized(area, at, len, h, s, first, n, end)
+    materialize_type::same_materialized(area, at, len, h, s, first, n, end)
 }
 
 // Pushes the struct with these type arguments.
@@ -58,12 +48,12 @@ pub fn push_struct(
     let first = type_args.at;
     let n = type_args.count;
     let end = signature_token::end_of_types(s, first, n);
-    let len = substitution::materialized_size(first, n, end);
+    let len = materialize_type::materialized_size(first, n, end);
     if area.len() - weight < len + 2 {
         return Stepped::Refused(StatusCode::NO_ROOM);
     }
-    substitution::materialize_into(&mut area[weight..], h, s, first, n, end);
-    Stepped::Next(type_stack::seal(area, weight, len))
+    materialize_type::materialize_into(&mut area[weight..], h, s, first, n, end);
+    Stepped::Next(type_pushes::seal(area, weight, len))
 }
 
 // Pushes a reference to the struct with these type arguments.
@@ -82,13 +72,13 @@ pub fn push_struct_reference(
     let first = type_args.at;
     let n = type_args.count;
     let end = signature_token::end_of_types(s, first, n);
-    let len = substitution::materialized_size(first, n, end) + 1;
+    let len = materialize_type::materialized_size(first, n, end) + 1;
     if area.len() - weight < len + 2 {
         return Stepped::Refused(StatusCode::NO_ROOM);
     }
-    type_stack::put_command(area, weight, reference_command(mutable));
-    substitution::materialize_into(&mut area[weight + 1..], h, s, first, n, end);
-    Stepped::Next(type_stack::seal(area, weight, len))
+    type_pushes::put_command(area, weight, type_pushes::reference_command(mutable));
+    materialize_type::materialize_into(&mut area[weight + 1..], h, s, first, n, end);
+    Stepped::Next(type_pushes::seal(area, weight, len))
 }
 
 // Pushes a reference to the type at `at` of s, its parameters replaced.
@@ -117,7 +107,7 @@ pub fn push_field_reference(
     if area.len() - weight < len + 2 {
         return Stepped::Refused(StatusCode::NO_ROOM);
     }
-    type_stack::put_command(area, weight, reference_command(mutable));
-    substitution::instantiate_into(&mut area[weight + 1..], s, at, s, args);
-    Stepped::Next(type_stack::seal(area, weight, len))
+    type_pushes::put_command(area, weight, type_pushes::reference_command(mutable));
+    substitution_writer::instantiate_into(&mut area[weight + 1..], s, at, s, args);
+    Stepped::Next(type_pushes::seal(area, weight, len))
 }

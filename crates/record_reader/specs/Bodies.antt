@@ -1,9 +1,10 @@
 -- The readers of this crate's functions, where the definitions have no name for one; what follows a type's command and an opcode.
+use mathlib.Core.Path.{_≡_}
 use mathlib.Core.Bool.{Bool, true, false}
 use mathlib.Core.List.{List}
-use Prim.Native.Nat.{ℕ}
+use Prim.Native.Nat.{ℕ, _<_}
 use lib.Dec.{eqb}
-use lib.ListN.{getD}
+use lib.ListN.{length, getD}
 use Rattle.definitions.specs.Reading.{Reader, _>>=_, byte, many}
 use Rattle.definitions.specs.Commands.{TypeCommand, leaf, over, instantiation, typeCommands, InstructionForm, plain, unkept, local, instructionForms, Commands}
 use Rattle.definitions.specs.Reader.{type, types, structHandle, pairOf, structDefinition}
@@ -55,3 +56,8 @@ widthOf InstructionForm.unknown = 0
 
 unfoldable pub operandWidth : ℕ → ℕ
 operandWidth opcode = widthOf (getD instructionForms opcode InstructionForm.unknown)
+
+-- each of the table's entries is how many bytes stand after the opcode at its place
+pub record WidthTable (table : List ℕ) : Type 0 where
+  pub size : length table ≡ 71
+  pub entry : (opcode : ℕ) → opcode < 71 → getD table opcode 0 ≡ operandWidth opcode

@@ -12,7 +12,7 @@ ghost use Rattle.definitions.specs.Commands.{commandsOf};
 ghost use Rattle.definitions.specs.Reading.{skip};
 ghost use Rattle.definitions.specs.Reader.{typeWithin, types, byteUpTo, structHandle, structDefinition, signatureOf, functionView, instruction};
 ghost use Rattle.record_reader.specs.ReadTo.{readTo};
-ghost use Rattle.record_reader.specs.Bodies.{counted, pair, bodyOf, typeShape, operandWidth};
+ghost use Rattle.record_reader.specs.Bodies.{counted, pair, bodyOf, typeShape, operandWidth, WidthTable};
 
 // Where reading goes on, or why it ends and the byte that this is about.
 pub enum ReadTo {
@@ -66,29 +66,40 @@ fn type_shape(command: u8) -> TypeShape
     }
 }
 
-// A type of at most so many levels.
+// A type of at most so many levels. Vectors and references stand in a row before what they are of: one turn of the loop for each.
 fn read_type(s: &[u8], at: usize, levels: u8) -> ReadTo
     ensures { λ r. ⌜ ((head : Head) → r ≡ readTo (typeWithin (commandsOf head) levels (now (s .entry)) at)) ⌝ }
 {
-    if s.len() <= at {
-        return ReadTo::Refused(StatusCode::SHORT, s.len());
-    }
-    if levels == 0 {
-        return ReadTo::Refused(StatusCode::DEPTH, at);
-    }
-    match type_shape(s[at]) {
-        TypeShape::Leaf => ReadTo::Next(at + 1),
-        TypeShape::Over => read_type(s, at + 1, levels - 1),
-        TypeShape::Index => skip_bytes(s, at + 1, 2),
-        TypeShape::Instantiation => {
-            let handle = skip_bytes(s, at + 1, 2);
-            let ReadTo::Next(next) = handle else {
-                return handle;
-            };
-            read_types_within(s, next, levels - 1)
+    let mut p = at;
+    let mut left = levels;
+    while p < s.len() {
+        if left == 0 {
+            return ReadTo::Refused(StatusCode::DEPTH, p);
         }
-        TypeShape::Unknown => ReadTo::Refused(StatusCode::COMMAND, at),
+        match type_shape(s[p]) {
+            TypeShape::Leaf => {
+                return ReadTo::Next(p + 1);
+            }
+            TypeShape::Over => {
+                p += 1;
+                left -= 1;
+            }
+            TypeShape::Index => {
+                return skip_bytes(s, p + 1, 2);
+            }
+            TypeShape::Instantiation => {
+                let handle = skip_bytes(s, p + 1, 2);
+                let ReadTo::Next(next) = handle else {
+                    return handle;
+                };
+                return read_types_within(s, next, left - 1);
+            }
+            TypeShape::Unknown => {
+                return ReadTo::Refused(StatusCode::COMMAND, p);
+            }
+        }
     }
+    ReadTo::Refused(StatusCode::SHORT, s.len())
 }
 
 // u8 count, and that many types of at most so many levels.
@@ -325,8 +336,16 @@ pub fn operand_width(opcode: usize) -> usize
     wide(OPERAND_WIDTHS[opcode])
 }
 
+// The whole table, for a caller that reads many instructions: indexing a constant makes it anew each time.
+pub fn operand_widths() -> [u8; 71]
+    ensures { λ r. ⌜ WidthTable r ⌝ }
+{
+    OPERAND_WIDTHS
+}
+
 // An opcode and its operands.
-pub fn read_instruction(s: &[u8], at: usize) -> ReadTo
+pub fn read_instruction(s: &[u8], at: usize, widths: &[u8]) -> ReadTo
+    requires { ⌜ WidthTable (now widths) ⌝ }
     ensures { λ r. ⌜ ((head : Head) → r ≡ readTo (instruction (commandsOf head) (now (s .entry)) at)) ⌝ }
 {
     if s.len() <= at {
@@ -336,5 +355,5 @@ pub fn read_instruction(s: &[u8], at: usize) -> ReadTo
     if 71 <= opcode {
         return ReadTo::Refused(StatusCode::COMMAND, at);
     }
-    skip_bytes(s, at + 1, operand_width(opcode))
+    skip_bytes(s, at + 1, wide(widths[opcode]))
 }

@@ -10,7 +10,6 @@ use Rattle.definitions.specs.Commands.{InstructionForm, plain, unkept, local, c
 use Rattle.definitions.specs.Reading.{read}
 use Rattle.definitions.specs.Reader as reader
 use Rattle.definitions.specs.Places.{At, RecordAt}
-use Rattle.record_reader.specs.Bodies.{operandWidth}
 use Rattle.record_views.specs.declared.TypeList.{TypeList}
 use Rattle.record_views.specs.declared.Fields.{Fields}
 use Rattle.record_views.specs.declared.StructDef.{StructDef}
@@ -53,17 +52,17 @@ pub record DefAt (s : List ℕ) (at : ℕ) : Type 0 where
 
 -- ── instructions ──
 
--- the instruction of a form, with the operands x and n where it takes them
-abbrev pub applied : InstructionForm → ℕ → ℕ → Bytecode
-applied (plain i) x n = i
-applied (unkept k i) x n = i
-applied (local f) x n = f x
-applied (InstructionForm.index f) x n = f x
-applied (counted f) x n = f x n
-applied InstructionForm.unknown x n = Nop
+-- the instruction of a form, with the local l, the index x and the number n where it takes them
+abbrev pub applied : InstructionForm → ℕ → ℕ → ℕ → Bytecode
+applied (plain i) l x n = i
+applied (unkept k i) l x n = i
+applied (local f) l x n = f l
+applied (InstructionForm.index f) l x n = f x
+applied (counted f) l x n = f x n
+applied InstructionForm.unknown l x n = Nop
 
-unfoldable pub instructionOf : ℕ → ℕ → ℕ → Bytecode
-instructionOf opcode x n = applied (getD instructionForms opcode InstructionForm.unknown) x n
+unfoldable pub instructionOf : ℕ → ℕ → ℕ → ℕ → Bytecode
+instructionOf opcode l x n = applied (getD instructionForms opcode InstructionForm.unknown) l x n
 
 -- some instruction's opcode stands at `at`
 pub record InstructionHere (s : List ℕ) (at : ℕ) : Type 0 where
@@ -74,6 +73,4 @@ pub record InstructionHere (s : List ℕ) (at : ℕ) : Type 0 where
 
 pub record InstructionIs (b : Bytecode) (r : Instruction) : Type 0 where
   pub known : r .opcode < 71
-  -- an operand of one byte
-  pub narrow : operandWidth (r .opcode) ≡ 1 → r .operand < 256
-  pub is : b ≡ instructionOf (r .opcode) (r .operand) (r .count)
+  pub is : b ≡ instructionOf (r .opcode) (r .local) (r .operand) (r .count)

@@ -208,61 +208,23 @@ reread {s} {at} p =
       operands-at = i .operands-at;
     }
 
--- the operands, by how many bytes they take
-module _ {s : List ℕ} {p : ℕ} {b : Bytecode} where
-  by-one : (form : InstructionForm) → OperandsAt s p b form → widthOf form ≡ 1 → (n : ℕ) → b ≡ applied form (getD s p 0) n
-  unfolding widthOf
-  by-one form (plain-at e) k n = absurd (omega arith)
-  by-one form (unkept-at e) k n = e
-  by-one form (local-at e) k n = e
-  by-one form (index-at e) k n = absurd (omega arith)
-  by-one form (counted-at e) k n = absurd (omega arith)
+-- the instruction, by its operands as far as its form takes them
+by-operands :
+    {s : List ℕ} {p : ℕ} {b : Bytecode} (form : InstructionForm) → OperandsAt s p b form → {l x n : ℕ} → (widthOf form ≡ 1 → l ≡ getD s p 0) →
+    (widthOf form ≡ 2 → x ≡ u16Of s p) → (widthOf form ≡ 10 → (x ≡ u16Of s p) × (n ≡ numberOf 8 s (p + 2))) → b ≡ applied form l x n
+unfolding widthOf
+by-operands form (plain-at e) f g h = e
+by-operands form (unkept-at e) f g h = e
+by-operands form (local-at e) f g h = rw (f refl) e
+by-operands form (index-at e) f g h = rw (g refl) e
+by-operands form (counted-at e) f g h = rw (h refl .0, h refl .1) e
 
-  by-two : (form : InstructionForm) → OperandsAt s p b form → widthOf form ≡ 2 → (n : ℕ) → b ≡ applied form (u16Of s p) n
-  unfolding widthOf
-  by-two form (plain-at e) k n = absurd (omega arith)
-  by-two form (unkept-at e) k n = e
-  by-two form (local-at e) k n = absurd (omega arith)
-  by-two form (index-at e) k n = e
-  by-two form (counted-at e) k n = absurd (omega arith)
-
-  by-ten : (form : InstructionForm) → OperandsAt s p b form → widthOf form ≡ 10 → b ≡ applied form (u16Of s p) (numberOf 8 s (p + 2))
-  unfolding widthOf
-  by-ten form (plain-at e) k = absurd (omega arith)
-  by-ten form (unkept-at e) k = e
-  by-ten form (local-at e) k = absurd (omega arith)
-  by-ten form (index-at e) k = absurd (omega arith)
-  by-ten form (counted-at e) k = e
-
-  by-other : (form : InstructionForm) → OperandsAt s p b form → (widthOf form ≡ 1 → ⊥) → (widthOf form ≡ 2 → ⊥) → (widthOf form ≡ 10 → ⊥) → (x n : ℕ) → b ≡ applied form x n
-  unfolding widthOf
-  by-other form (plain-at e) f g h x n = e
-  by-other form (unkept-at e) f g h x n = e
-  by-other form (local-at e) f g h x n = absurd (f refl)
-  by-other form (index-at e) f g h x n = absurd (g refl)
-  by-other form (counted-at e) f g h x n = absurd (h refl)
-
-module _ {s : List ℕ} {at : ℕ} (p : InstructionHere s at) {r : Instruction} (o : r .opcode ≡ getD s at 0) where
-  found : p .instruction ≡ applied (getD instructionForms (getD s at 0) InstructionForm.unknown) (r .operand) (r .count) → (operandWidth (getD s at 0) ≡ 1 → r .operand < 256) → InstructionIs (p .instruction) r
-  unfolding instructionOf
-  found e n = record { known = rw o (reread p .known); narrow = rw o n; is = rw o e }
-
-  pub is-one : operandWidth (getD s at 0) ≡ 1 → r .operand ≡ getD s (at + 1) 0 → r .operand < 256 → InstructionIs (p .instruction) r
-  unfolding operandWidth
-  is-one k e l = found (by-one _ (reread p .operands-at) k (r .count) ∙ rw e) (λ z. l)
-
-  pub is-two : operandWidth (getD s at 0) ≡ 2 → r .operand ≡ u16Of s (at + 1) → InstructionIs (p .instruction) r
-  unfolding operandWidth
-  is-two k e = found (by-two _ (reread p .operands-at) k (r .count) ∙ rw e) (λ z. absurd (omega arith))
-
-  pub is-ten : operandWidth (getD s at 0) ≡ 10 → r .operand ≡ u16Of s (at + 1) → r .count ≡ numberOf 8 s (at + 1 + 2) → InstructionIs (p .instruction) r
-  unfolding operandWidth
-  is-ten k e f = found (by-ten _ (reread p .operands-at) k ∙ rw (e, f)) (λ z. absurd (omega arith))
-
-  pub is-other :
-      (operandWidth (getD s at 0) ≡ 1 → ⊥) → (operandWidth (getD s at 0) ≡ 2 → ⊥) → (operandWidth (getD s at 0) ≡ 10 → ⊥) → InstructionIs (p .instruction) r
-  unfolding operandWidth
-  is-other f g h = found (by-other _ (reread p .operands-at) f g h (r .operand) (r .count)) (λ z. absurd (f z))
+pub is-here :
+    {s : List ℕ} {at : ℕ} (p : InstructionHere s at) {r : Instruction} → r .opcode ≡ getD s at 0 →
+    (operandWidth (getD s at 0) ≡ 1 → r .local ≡ getD s (at + 1) 0) → (operandWidth (getD s at 0) ≡ 2 → r .operand ≡ u16Of s (at + 1)) →
+    (operandWidth (getD s at 0) ≡ 10 → (r .operand ≡ u16Of s (at + 1)) × (r .count ≡ numberOf 8 s (at + 1 + 2))) → InstructionIs (p .instruction) r
+unfolding instructionOf operandWidth
+is-here p o f g h = record { known = rw o (reread p .known); is = rw o (by-operands _ (reread p .operands-at) f g h) }
 
 -- ── a u64 ──
 

@@ -23,9 +23,10 @@ pub struct StructDef {
     pub fields: Fields,
 }
 
-// An instruction: its opcode, the local or table index after it, and how many elements. What the opcode does not take is anything.
+// An instruction: its opcode, the local or the table index after it, and how many elements. What the opcode does not take is anything.
 pub struct Instruction {
     pub opcode: u8,
+    pub local: u8,
     pub operand: u16,
     pub count: u64,
 }
@@ -98,8 +99,8 @@ pub fn struct_def_at(s: &[u8], at: usize) -> StructDef
     }
 }
 
-// The instruction whose opcode stands at `at`.
-pub fn instruction_at(s: &[u8], at: usize) -> Instruction
+// The instruction whose opcode stands at `at`, its operands read by how many bytes they take.
+fn instruction_by_width(s: &[u8], at: usize) -> Instruction
     requires { ⌜ InstructionHere (now s) at ⌝ }
     ensures { λ r. ⌜ ((p : InstructionHere (now (s .entry)) at) → InstructionIs (p .instruction) r) ⌝ }
 {
@@ -107,23 +108,44 @@ pub fn instruction_at(s: &[u8], at: usize) -> Instruction
     match record_reader::operand_width(wide(opcode)) {
         1 => Instruction {
             opcode: opcode,
-            operand: wide16(s[at + 1]),
+            local: s[at + 1],
+            operand: 0,
             count: 0,
         },
         2 => Instruction {
             opcode: opcode,
+            local: 0,
             operand: u16_at(s, at + 1),
             count: 0,
         },
         10 => Instruction {
             opcode: opcode,
+            local: 0,
             operand: u16_at(s, at + 1),
             count: u64_at(s, at + 3),
         },
         _ => Instruction {
             opcode: opcode,
+            local: 0,
             operand: 0,
             count: 0,
         },
+    }
+}
+
+// The instruction whose opcode stands at `at`. Where the longest operands would fit, the bytes behind the opcode are read as each kind of
+// operand, with no decision over the opcode: that is left to whoever uses them.
+pub fn instruction_at(s: &[u8], at: usize) -> Instruction
+    requires { ⌜ InstructionHere (now s) at ⌝ }
+    ensures { λ r. ⌜ ((p : InstructionHere (now (s .entry)) at) → InstructionIs (p .instruction) r) ⌝ }
+{
+    if s.len() - at <= 10 {
+        return instruction_by_width(s, at);
+    }
+    Instruction {
+        opcode: s[at],
+        local: s[at + 1],
+        operand: u16_at(s, at + 1),
+        count: u64_at(s, at + 3),
     }
 }

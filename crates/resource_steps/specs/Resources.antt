@@ -18,11 +18,11 @@ use Rattle.definitions.specs.TypeSafety.{structType, needsKey}
 use Rattle.definitions.specs.Places.{TypeAt}
 use Rattle.file_format.specs.declared.Ability.the-variants.{Key}
 use Rattle.record_views.specs.Records.{TypesIn}
-use Rattle.signature_token.specs.declared.Referent.{Referent}
-use Rattle.signature_token.specs.declared.Referent.the-variants as referent
+use Rattle.type_tests.specs.declared.Referent.{Referent}
+use Rattle.type_tests.specs.declared.Referent.the-variants as referent
 use Rattle.signature_token.specs.Token.{tokenOf}
 use Rattle.signature_token.specs.TokenLaws.{is-signer}
-use Rattle.signature_token.specs.Kinds.{ReferentAt, LeafAt, referentOf}
+use Rattle.type_tests.specs.Kinds.{ReferentAt, LeafAt, referentOf}
 use Rattle.signature_token.specs.Same.{same-no, same-both}
 use Rattle.type_stack.specs.Held.{Here}
 use Rattle.type_stack.specs.Stepping.{StepsTo}

@@ -1,32 +1,21 @@
-// The steps of type_safety.rs over the structs in global storage: exists, move_from and move_to test key before popping, borrow_global
-// pops and tests the address first.
+// The steps of type_safety.rs that ask for a struct in global storage or change it: exists, move_from and move_to. Each tests key before it pops.
 use file_format::Ability;
-use file_format::StructDefInstantiationIndex;
-use file_format::StructDefinitionIndex;
-use record_views::TypeList;
-use signature_token::Referent;
+use global_steps::ADDRESS;
 use status::StatusCode;
 use step_views::Checked;
-use step_views::StructWith;
 use step_views::StructWithResult;
 use type_stack::Stepped;
 use type_stack::TopTwo;
+use type_tests::Referent;
 use unit::View;
-use unit_views::SignatureResult;
-use unit_views::StructDefResult;
-use unit_views::StructInstantiationResult;
 ghost use Rattle.definitions.specs.Places.{TypeAt};
 ghost use Rattle.definitions.specs.Reader.{compiledUnit};
 ghost use Rattle.definitions.specs.TypeSafety as step;
-ghost use Rattle.record_views.specs.Records.{TypesIn};
 ghost use Rattle.type_stack.specs.Held.{Stacked};
 ghost use Rattle.type_stack.specs.Stepping.{StepsTo};
 ghost use Rattle.unit.specs.Views.{UnitRead};
 ghost use Rattle.step_views.specs.Structs.{StructLooked};
 ghost use Rattle.resource_steps.specs.Resources.{SignerReferenceAt, KeyStructIs};
-
-// The command of address.
-const ADDRESS: u8 = 5;
 
 // A struct that has key, or the status of a refusal: of its look-up, or the one given where key is lacking.
 fn key_struct(
@@ -75,7 +64,7 @@ pub fn exists(
         StructWithResult::Found(_) => {
             match operand_steps::pop_leaf(area, weight, ADDRESS, refusal) {
                 Stepped::Refused(status) => Stepped::Refused(status),
-                Stepped::Next(below) => type_stack::push_leaf(area, below, 1),
+                Stepped::Next(below) => type_pushes::push_leaf(area, below, 1),
             }
         }
     }
@@ -116,8 +105,8 @@ fn is_signer_reference(area: &[u8], at: usize) -> bool
     requires { ⌜ TypeAt (now area) at ⌝ }
     ensures { λ r. ⌜ SignerReferenceAt (now (area .entry)) at r ⌝ }
 {
-    match signature_token::referent_at(area, at) {
-        Referent::Reference(inner) => signature_token::is_leaf(area, inner, 6),
+    match type_tests::referent_at(area, at) {
+        Referent::Reference(inner) => type_tests::is_leaf(area, inner, 6),
         Referent::MutableReference(_) => false,
         Referent::Value => false,
     }
@@ -158,69 +147,6 @@ pub fn move_to(
                 }
             }
             Stepped::Refused(StatusCode::MOVETO_TYPE_MISMATCH_ERROR)
-        }
-    }
-}
-
-// `borrow_global`: the address is popped and tested before the definition is looked up.
-pub fn borrow_global(
-    area: &mut [u8],
-    weight: usize,
-    s: &[u8],
-    index: &[u16],
-    view: View,
-    mutable: bool,
-    idx: StructDefinitionIndex,
-    type_args: TypeList,
-) -> Stepped
-    requires { ⌜ Stacked (now area) weight ⌝ }
-    requires { ⌜ UnitRead (now s) (now index) view ⌝ }
-    requires { ⌜ TypesIn (now s) «type_args» ⌝ }
-    ensures { λ r. ⌜ ((p : UnitRead (now (s .entry)) (now (index .entry)) view) (q : TypesIn (now (s .entry)) «type_args») → StepsTo (step.borrowGlobal (compiledUnit (p .decoded)) mutable (idx .0) (q .types)) (now (area .entry)) weight (now (area .exit)) r) ⌝ }
-{
-    let mismatch = StatusCode::BORROWGLOBAL_TYPE_MISMATCH_ERROR;
-    match operand_steps::pop_leaf(area, weight, ADDRESS, mismatch) {
-        Stepped::Refused(status) => Stepped::Refused(status),
-        Stepped::Next(below) => match unit_views::struct_def_at(s, index, view, idx) {
-            StructDefResult::Refused(status) => Stepped::Refused(status),
-            StructDefResult::Found(def) => {
-                let h = def.handle;
-                let no_key = StatusCode::BORROWGLOBAL_WITHOUT_KEY_ABILITY;
-                let key = Ability::Key;
-                match step_views::check_struct_ability(s, index, view, h, type_args, key, no_key) {
-                    Checked::Refused(status) => Stepped::Refused(status),
-                    Checked::Passed => {
-                        made_types::push_struct_reference(area, below, mutable, s, h, type_args)
-                    }
-                }
-            }
-        },
-    }
-}
-
-// `MutBorrowGlobalGeneric`, `ImmBorrowGlobalGeneric`.
-pub fn borrow_global_generic(
-    area: &mut [u8],
-    weight: usize,
-    s: &[u8],
-    index: &[u16],
-    view: View,
-    mutable: bool,
-    idx: StructDefInstantiationIndex,
-) -> Stepped
-    requires { ⌜ Stacked (now area) weight ⌝ }
-    requires { ⌜ UnitRead (now s) (now index) view ⌝ }
-    ensures { λ r. ⌜ ((p : UnitRead (now (s .entry)) (now (index .entry)) view) → StepsTo (step.borrowGlobalGeneric (compiledUnit (p .decoded)) mutable (idx .0)) (now (area .entry)) weight (now (area .exit)) r) ⌝ }
-{
-    match unit_views::struct_instantiation_at(s, index, view, idx) {
-        StructInstantiationResult::Refused(status) => Stepped::Refused(status),
-        StructInstantiationResult::Found(inst) => {
-            match unit_views::signature_at(s, index, view, inst.type_parameters) {
-                SignatureResult::Refused(status) => Stepped::Refused(status),
-                SignatureResult::Found(type_args) => {
-                    borrow_global(area, weight, s, index, view, mutable, inst.def, type_args)
-                }
-            }
         }
     }
 }

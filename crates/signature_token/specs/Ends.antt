@@ -1,11 +1,12 @@
--- Where a type ends, by what `token_at` found of it; and how a walk's measure falls: unread bytes first, then how many types are left.
+-- Where a type with no type inside ends, by what `token_at` found of it; and how the measure falls of a walk whose functions call each
+-- other: unread bytes first, then how many types are left.
 use mathlib.Core.Path.{_≡_}
 use mathlib.Core.List.{List}
 use Prim.Native.Nat.{ℕ, _+_, _-_, _*_, _≤_, _<_}
 use native.Mathlib.Omega.{arith}
 use lib.ListN.{length, getD}
 use Rattle.definitions.specs.SignatureToken.{encode}
-use Rattle.definitions.specs.Places.{TypeAt, EndOfType, EndOfTypes}
+use Rattle.definitions.specs.Places.{TypeAt, EndOfType}
 use Rattle.theorems.specs.AtLaws.{at-room}
 use Rattle.file_format.specs.declared.StructHandleIndex.{StructHandleIndex}
 use Rattle.signature_token.specs.declared.Wrapper.{Wrapper}
@@ -18,20 +19,8 @@ module _ {s : List ℕ} {at : ℕ} {r : Token} (w : TokenAt s at r) where
   pub leaf-end : {b : ℕ} → r ≡ Leaf b → EndOfType s at (at + 1)
   leaf-end e p = omega (arith, leaf-long (leaf-at w p e))
 
-  pub wrapped-end : {v : Wrapper} {x y : ℕ} → r ≡ Wrapped v x → EndOfType s x y → EndOfType s at y
-  wrapped-end e f p =
-      let k = wrapped-at w p e in
-      let z = f (record { type = k .inner; stands = k .stands }) in
-      omega (arith, k .long, k .place)
-
   pub struct-end : {k : StructHandleIndex} → r ≡ Struct k → EndOfType s at (at + 3)
   struct-end e p = omega (arith, struct-at w p e .long)
-
-  pub instantiation-end : {k : StructHandleIndex} {n x y : ℕ} → r ≡ StructInstantiation k n x → EndOfTypes s x n y → EndOfType s at y
-  instantiation-end e f p =
-      let k = instantiation-at w p e in
-      let z = f (record { types = k .types; counted = k .counted; stands = k .stands }) in
-      omega (arith, k .long, k .place)
 
   pub parameter-end : {i : ℕ} → r ≡ TypeParameter i → EndOfType s at (at + 3)
   parameter-end e p = omega (arith, parameter-at w p e .long)

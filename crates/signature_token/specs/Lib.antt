@@ -2,6 +2,5 @@ pub mod Token
 pub mod TokenLaws
 pub mod Lists
 pub mod Ends
+pub mod Passing
 pub mod Same
-pub mod Kinds
-pub mod Nesting

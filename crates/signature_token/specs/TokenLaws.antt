@@ -1,6 +1,6 @@
 -- What a type is whose parts `token_at` found: one law for each answer, with the types that stand below and how many bytes there are.
 use mathlib.Core.Path.{_≡_, refl, sym, ap, _∙_}
-use mathlib.Core.List.{List, [], _∷_}
+use mathlib.Core.List.{List, [], _∷_, _++_}
 use Prim.Native.Nat.{ℕ, _+_, _-_, _/_, _%_}
 use native.Mathlib.Omega.{arith}
 use lib.ListN.{length, getD, length-append}
@@ -142,6 +142,7 @@ pub record IsMore (s : List ℕ) (at n : ℕ) (ts : SignatureTokens) : Type 0 wh
   pub first : SignatureToken
   pub others : SignatureTokens
   pub is : ts ≡ first ∷ᵗ others
+  pub whole : At s at (encode first ++ encodeAll others)
   pub stands : At s at (encode first)
   pub after : At s (at + length (encode first)) (encodeAll others)
   pub counted : count others ≡ n - 1
@@ -154,6 +155,7 @@ more-is (t ∷ᵗ ts) e h f = record {
   first = t;
   others = ts;
   is = refl;
+  whole = h;
   stands = at-front (encode t) (encodeAll ts) h;
   after = at-back (encode t) (encodeAll ts) h;
   counted = omega arith;

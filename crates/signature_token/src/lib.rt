@@ -1,17 +1,10 @@
-// Walks over a type's bytes: a type taken apart at its first command, where it ends, how deep it nests, the places of the types of a
-// list, and equality. `token_at` is the one place that knows the commands of types.
+// A type taken apart at its first command, and where types end. `token_at` is the one place that knows the commands of types.
 use file_format::StructHandleIndex;
 ghost use mathlib.Core.Path.{_≡_};
-ghost use Prim.Native.Nat.{ℕ, _+_, _*_, _≤_, _<_, max};
-ghost use mathlib.Core.Bool.{_&&_};
-ghost use lib.Dec.{leb, ltb};
+ghost use Prim.Native.Nat.{ℕ, _+_, _*_, _<_};
 ghost use lib.ListN.{length, getD};
 ghost use Rattle.definitions.specs.Places.{TypeAt, TypesAt, EndOfType, EndOfTypes};
 ghost use Rattle.signature_token.specs.Token.{shapeOf, TokenAt};
-ghost use Rattle.signature_token.specs.Lists.{PlacesAt};
-ghost use Rattle.signature_token.specs.Same.{Spans, SameAt};
-ghost use Rattle.signature_token.specs.Kinds.{ReferentAt, IntegerAt, LeafAt};
-ghost use Rattle.signature_token.specs.Nesting.{NestingAt, NestingsAt};
 
 // What a type's command opens.
 pub enum Shape {
@@ -108,162 +101,38 @@ pub fn end_of_type(s: &[u8], at: usize) -> usize
     requires { ⌜ TypeAt (now s) at ⌝ }
     ensures { λ r. ⌜ EndOfType (now (s .entry)) at r ⌝ }
 {
-    match token_at(s, at) {
-        Token::Leaf(_) => at + 1,
-        Token::Wrapped(_, inner) => end_of_type(s, inner),
-        Token::Struct(_) => at + 3,
-        Token::StructInstantiation(_, n, first) => end_of_types(s, first, n),
-        Token::TypeParameter(_) => at + 3,
-    }
+    end_of_types(s, at, 1)
 }
 
-// The end of the n types at `at`.
+// The end of the n types at `at`. A type inside another is passed as one more of those that are left, so that nothing calls itself.
 pub fn end_of_types(s: &[u8], at: usize, n: usize) -> usize
     requires { ⌜ TypesAt (now s) at n ⌝ }
     ensures { λ r. ⌜ EndOfTypes (now (s .entry)) at n r ⌝ }
 {
-    let mut end = at;
-    let mut i = 0;
-    while i < n {
-        end = end_of_type(s, end);
-        i += 1;
-    }
-    end
-}
-
-// The places of the n types at `at`, to the front of out; and where the last of them ends.
-pub fn type_places(s: &[u8], at: usize, n: usize, out: &mut [u16]) -> usize
-    requires { ⌜ TypesAt (now s) at n ⌝ }
-    requires { ⌜ (n ≤ length (now out)) × (length (now s) ≤ 65536) ⌝ }
-    ensures { λ r. ⌜ PlacesAt (now (s .entry)) at n (now (out .exit)) r ⌝ }
-{
     let mut p = at;
-    let mut i = 0;
-    while i < n {
-        out[i] = p as u16;
-        p = end_of_type(s, p);
-        i += 1;
+    let mut left = n;
+    while 0 < left {
+        match token_at(s, p) {
+            Token::Leaf(_) => {
+                p += 1;
+                left -= 1;
+            }
+            Token::Wrapped(_, inner) => {
+                p = inner;
+            }
+            Token::Struct(_) => {
+                p += 3;
+                left -= 1;
+            }
+            Token::StructInstantiation(_, k, first) => {
+                p = first;
+                left = left - 1 + k;
+            }
+            Token::TypeParameter(_) => {
+                p += 3;
+                left -= 1;
+            }
+        }
     }
     p
-}
-
-// Whether the type of len bytes at x of a is the type at y of b. Where the second ends is not asked: bytes begin with one type at most.
-pub fn same_type(a: &[u8], x: usize, len: usize, b: &[u8], y: usize) -> bool
-    requires { ⌜ Spans (now a) x len ⌝ }
-    requires { ⌜ TypeAt (now b) y ⌝ }
-    ensures { λ r. ⌜ SameAt (now (a .entry)) x len (now (b .entry)) y r ⌝ }
-{
-    if b.len() - y < len {
-        return false;
-    }
-    let mut i = 0;
-    while i < len {
-        if a[x + i] != b[y + i] {
-            return false;
-        }
-        i += 1;
-    }
-    true
-}
-
-// What a type refers to: where that stands, by which kind of reference; or that it is no reference.
-pub enum Referent {
-    Reference(usize),
-    MutableReference(usize),
-    Value,
-}
-
-// The type at `at` as a reference.
-pub fn referent_at(s: &[u8], at: usize) -> Referent
-    requires { ⌜ TypeAt (now s) at ⌝ }
-    ensures { λ r. ⌜ ReferentAt (now (s .entry)) at r ⌝ }
-{
-    match token_at(s, at) {
-        Token::Leaf(_) => Referent::Value,
-        Token::Wrapped(wrapper, inner) => match wrapper {
-            Wrapper::Vector => Referent::Value,
-            Wrapper::Reference => Referent::Reference(inner),
-            Wrapper::MutableReference => Referent::MutableReference(inner),
-        },
-        Token::Struct(_) => Referent::Value,
-        Token::StructInstantiation(_, _, _) => Referent::Value,
-        Token::TypeParameter(_) => Referent::Value,
-    }
-}
-
-// Whether the type at `at` is u8, u64 or u128.
-pub fn is_integer(s: &[u8], at: usize) -> bool
-    requires { ⌜ TypeAt (now s) at ⌝ }
-    ensures { λ r. ⌜ IntegerAt (now (s .entry)) at r ⌝ }
-{
-    match token_at(s, at) {
-        Token::Leaf(command) => integer_command(command),
-        Token::Wrapped(_, _) => false, // a vector or a reference
-        Token::Struct(_) => false,
-        Token::StructInstantiation(_, _, _) => false,
-        Token::TypeParameter(_) => false,
-    }
-}
-
-// Whether the type at `at` is the leaf of that command.
-pub fn is_leaf(s: &[u8], at: usize, command: u8) -> bool
-    requires { ⌜ TypeAt (now s) at ⌝ }
-    ensures { λ r. ⌜ LeafAt (now (s .entry)) at command r ⌝ }
-{
-    match token_at(s, at) {
-        Token::Leaf(found) => found == command,
-        Token::Wrapped(_, _) => false,
-        Token::Struct(_) => false,
-        Token::StructInstantiation(_, _, _) => false,
-        Token::TypeParameter(_) => false,
-    }
-}
-
-// Whether a leaf's command is that of u8, u64 or u128.
-fn integer_command(command: u8) -> bool
-    ensures { λ r. ⌜ r ≡ leb 2 command && ltb command 5 ⌝ }
-{
-    if command < 2 {
-        return false;
-    }
-    command < 5
-}
-
-fn larger(a: usize, b: usize) -> usize
-    ensures { λ r. ⌜ r ≡ max a b ⌝ }
-{
-    if a < b {
-        return b;
-    }
-    a
-}
-
-// How many levels the type at `at` nests, a leaf being one.
-pub fn nesting_of_type(s: &[u8], at: usize) -> usize
-    requires { ⌜ TypeAt (now s) at ⌝ }
-    ensures { λ r. ⌜ NestingAt (now (s .entry)) at r ⌝ }
-{
-    match token_at(s, at) {
-        Token::Leaf(_) => 1,
-        Token::Wrapped(_, inner) => nesting_of_type(s, inner) + 1,
-        Token::Struct(_) => 1,
-        Token::StructInstantiation(_, n, first) => nesting_of_types(s, first, n) + 1,
-        Token::TypeParameter(_) => 1,
-    }
-}
-
-// How many levels the deepest of the n types at `at` nests.
-pub fn nesting_of_types(s: &[u8], at: usize, n: usize) -> usize
-    requires { ⌜ TypesAt (now s) at n ⌝ }
-    ensures { λ r. ⌜ NestingsAt (now (s .entry)) at n r ⌝ }
-{
-    let mut next = at;
-    let mut deepest = 0;
-    let mut i = 0;
-    while i < n {
-        deepest = larger(deepest, nesting_of_type(s, next));
-        next = end_of_type(s, next);
-        i += 1;
-    }
-    deepest
 }

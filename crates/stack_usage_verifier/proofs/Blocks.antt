@@ -13,7 +13,7 @@ use Rattle.definitions.specs.Bytecode.{Bytecode}
 use Rattle.definitions.specs.CompiledUnit.{CompiledUnit, Block}
 use Rattle.definitions.specs.StackUsage.{Effect, instructionEffect, instructionsOf, heightAfter, heightOver, atBlockEnd, verifyBlock}
 use Rattle.definitions.specs.Verify.{usageOver, stackUsage}
-use Rattle.unit_views.specs.Along.{from-place, upTo, up-to-more, up-to-none, past-end}
+use Rattle.code_views.specs.Along.{from-place, upTo, up-to-more, up-to-none, past-end}
 
 -- ── the instructions of a block ──
 

@@ -15,17 +15,19 @@ use Rattle.definitions.specs.StackUsage.{_⇒_, fieldCount, callEffect, instruc
 use Rattle.record_views.specs.declared.Instruction.{Instruction}
 use Rattle.record_views.specs.declared.Fields.{Fields}
 use Rattle.unit_views.specs.declared.SignatureResult.{SignatureResult}
-use Rattle.unit_views.specs.declared.FunctionHandleResult.{FunctionHandleResult}
-use Rattle.unit_views.specs.declared.FunctionInstantiationResult.{FunctionInstantiationResult}
+use Rattle.handle_views.specs.declared.FunctionHandleResult.{FunctionHandleResult}
+use Rattle.handle_views.specs.declared.FunctionInstantiationResult.{FunctionInstantiationResult}
 use Rattle.unit_views.specs.declared.StructDefResult.{StructDefResult}
-use Rattle.unit_views.specs.declared.StructInstantiationResult.{StructInstantiationResult}
+use Rattle.handle_views.specs.declared.StructInstantiationResult.{StructInstantiationResult}
 use Rattle.record_views.specs.Records.{FieldsAre, instructionOf}
-use Rattle.unit_views.specs.Answers.{InstructionAt, SignatureIs, signatureAnswer, StructDefIs, structDefAnswer, functionHandleAnswer, functionInstantiationAnswer, structInstantiationAnswer}
+use Rattle.code_views.specs.Answers.{InstructionAt}
+use Rattle.unit_views.specs.Answers.{SignatureIs, signatureAnswer, StructDefIs, structDefAnswer}
+use Rattle.handle_views.specs.Answers.{functionHandleAnswer, functionInstantiationAnswer, structInstantiationAnswer}
 use Rattle.stack_usage_verifier.specs.declared.Effect.{Effect}
 use Rattle.stack_usage_verifier.specs.declared.EffectResult.{EffectResult}
 use Rattle.stack_usage_verifier.specs.Effects.{looksUp, FixedEffect}
 use Rattle.stack_usage_verifier.specs.Answers.{effectResult, InstructionEffectAt}
-use Rattle.unit_views.specs.Answers.{handleOf}
+use Rattle.handle_views.specs.Answers.{handleOf}
 
 module _ {A B : Type 0} (f : A → Result B) {x : Result A} where
   -- a refusal stays
@@ -39,46 +41,6 @@ module _ {A B : Type 0} (f : A → Result B) {x : Result A} where
   found e k = rw (← e) k
 
 -- ── what the look-ups tell ──
-
--- an answer that is read back as the result that it stands for
-told : {A R : Type 0} {answer : Result A → R} (result : R → Result A) → ((x : Result A) → result (answer x) ≡ x) →
-    {r v : R} (x : Result A) → r ≡ answer x → r ≡ v → result v ≡ x
-told result undo x e f = ap result (sym f ∙ e) ∙ undo x
-
-abbrev functionHandleResult : FunctionHandleResult → Result FunctionHandle
-functionHandleResult (FunctionHandleResult.Found h) = ok (handleOf h)
-functionHandleResult (FunctionHandleResult.Refused w) = err w
-
-pub handle-told : {r v : FunctionHandleResult} (x : Result FunctionHandle) → r ≡ functionHandleAnswer x → r ≡ v → functionHandleResult v ≡ x
-handle-told = told functionHandleResult undo
-  where
-    undo : (x : Result FunctionHandle) → functionHandleResult (functionHandleAnswer x) ≡ x
-    undo (ok h) = refl
-    undo (err w) = refl
-
-abbrev functionInstantiationResult : FunctionInstantiationResult → Result FunctionInstantiation
-functionInstantiationResult (FunctionInstantiationResult.Found i) = ok (record { handle = i .handle .0; typeParameters = i .«type_parameters» .0 })
-functionInstantiationResult (FunctionInstantiationResult.Refused w) = err w
-
-pub function-told :
-    {r v : FunctionInstantiationResult} (x : Result FunctionInstantiation) → r ≡ functionInstantiationAnswer x → r ≡ v → functionInstantiationResult v ≡ x
-function-told = told functionInstantiationResult undo
-  where
-    undo : (x : Result FunctionInstantiation) → functionInstantiationResult (functionInstantiationAnswer x) ≡ x
-    undo (ok i) = refl
-    undo (err w) = refl
-
-abbrev structInstantiationResult : StructInstantiationResult → Result StructDefInstantiation
-structInstantiationResult (StructInstantiationResult.Found i) = ok (record { def = i .def .0; typeParameters = i .«type_parameters» .0 })
-structInstantiationResult (StructInstantiationResult.Refused w) = err w
-
-pub struct-told :
-    {r v : StructInstantiationResult} (x : Result StructDefInstantiation) → r ≡ structInstantiationAnswer x → r ≡ v → structInstantiationResult v ≡ x
-struct-told = told structInstantiationResult undo
-  where
-    undo : (x : Result StructDefInstantiation) → structInstantiationResult (structInstantiationAnswer x) ≡ x
-    undo (ok i) = refl
-    undo (err w) = refl
 
 -- how many types a signature has, by the look-up's answer
 abbrev signatureCount : SignatureResult → Result ℕ
@@ -161,9 +123,9 @@ module _ {u : CompiledUnit} {i : ℕ} {instruction : Instruction} (a : Instructi
   -- an opcode that looks its effect up
   pub looked-up :
       {r : EffectResult} (opcode : ℕ) → instruction .opcode ≡ opcode →
-      effectResult r ≡ instructionEffect u (instructionOf opcode (instruction .operand) (instruction .count)) → InstructionEffectAt u i r
+      effectResult r ≡ instructionEffect u (instructionOf opcode (instruction .local) (instruction .operand) (instruction .count)) → InstructionEffectAt u i r
   looked-up opcode e k = record { instruction = _; stands = a .is; effect = rw e k }
 
   -- and one whose effect is the table's
   pub in-table : {e : Effect} → looksUp (instruction .opcode) ≡ false → FixedEffect (instruction .opcode) e → InstructionEffectAt u i (EffectResult.Found (e .0) (e .1))
-  in-table none f = record { instruction = _; stands = a .is; effect = sym (f .agrees none u (instruction .operand) (instruction .count)) }
+  in-table none f = record { instruction = _; stands = a .is; effect = sym (f .agrees none u (instruction .local) (instruction .operand) (instruction .count)) }

@@ -13,7 +13,7 @@ use Rattle.definitions.specs.CompiledUnit.{CompiledUnit}
 use Rattle.definitions.specs.StackUsage as defs
 use Rattle.stack_usage_verifier.specs.declared.Effect.{Effect}
 use Rattle.record_views.specs.Records.{instructionOf}
-use Rattle.stack_usage_verifier.specs.Effects.{effectOf, looksUp, EffectTable}
+use Rattle.stack_usage_verifier.specs.Effects.{effectOf, looksUp, pairOf, EffectTable}
 
 and-left : (a b : Bool) → T (a && b) → T a
 and-left true b t = tt
@@ -52,14 +52,15 @@ same-effect (ok e) p t =
 same-effect (err status) p t = absurd t
 
 -- an entry is what the definition says of the opcode at its place, or the opcode looks its effect up
-unfoldable pub agrees : CompiledUnit → ℕ → ℕ → ℕ → Effect → Bool
-agrees u x n opcode p = looksUp opcode || sameEffect (defs.instructionEffect u (instructionOf opcode x n)) p
+unfoldable pub agrees : CompiledUnit → ℕ → ℕ → ℕ → ℕ → ℕ → Bool
+agrees u l x n opcode byte = looksUp opcode || sameEffect (defs.instructionEffect u (instructionOf opcode l x n)) (pairOf byte)
 
 -- 71 pairs that pass the test hold the effect of each opcode
-pub tested : (table : List Effect) → length table ≡ 71 → ((u : CompiledUnit) (x n : ℕ) → T (every (agrees u x n) 0 table)) → EffectTable table
+pub tested : (table : List ℕ) → length table ≡ 71 → ((u : CompiledUnit) (l x n : ℕ) → T (every (agrees u l x n) 0 table)) → EffectTable table
 unfolding agrees
-tested table l t = record {
-  entry = λ opcode h d. record { agrees = λ e u x n. go (looksUp opcode) e _ _ (at d (agrees u x n) table (t u x n) opcode (omega arith)) };
+tested table long t = record {
+  long = long;
+  entry = λ opcode h. record { agrees = λ e u l x n. go (looksUp opcode) e _ _ (at 0 (agrees u l x n) table (t u l x n) opcode (omega arith)) };
 }
   where
     go : (looks : Bool) → looks ≡ false → (r : Result defs.Effect) (p : Effect) → T (looks || sameEffect r p) → r ≡ ok (effectOf p)

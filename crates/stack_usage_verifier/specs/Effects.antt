@@ -2,8 +2,8 @@
 use mathlib.Core.Path.{_≡_}
 use mathlib.Core.Bool.{Bool, false}
 use mathlib.Core.List.{List, [], _∷_}
-use Prim.Native.Nat.{ℕ, _<_}
-use lib.ListN.{getD}
+use Prim.Native.Nat.{ℕ, _/_, _%_, _<_}
+use lib.ListN.{length, getD}
 use Rattle.definitions.specs.Result.{ok}
 use Rattle.definitions.specs.CompiledUnit.{CompiledUnit}
 use Rattle.definitions.specs.Commands.{oneOf}
@@ -20,8 +20,13 @@ looksUp opcode = oneOf (1 ∷ 17 ∷ 18 ∷ 19 ∷ 20 ∷ 21 ∷ 22 ∷ 63 ∷ 6
 
 -- e is the effect of an opcode in every unit and with all operands, unless the opcode looks its effect up
 pub record FixedEffect (opcode : ℕ) (e : Effect) : Type 0 where
-  pub agrees : looksUp opcode ≡ false → (u : CompiledUnit) (x n : ℕ) → defs.instructionEffect u (instructionOf opcode x n) ≡ ok (effectOf e)
+  pub agrees : looksUp opcode ≡ false → (u : CompiledUnit) (l x n : ℕ) → defs.instructionEffect u (instructionOf opcode l x n) ≡ ok (effectOf e)
 
--- each of the table's entries is the effect of the opcode at its place
-pub record EffectTable (table : List Effect) : Type 0 where
-  pub entry : (opcode : ℕ) → opcode < 71 → (d : Effect) → FixedEffect opcode (getD table opcode d)
+-- the pair that a byte holds
+abbrev pub pairOf : ℕ → Effect
+pairOf byte = record { 0 = byte / 16; 1 = byte % 16 }
+
+-- each of the table's pairs is the effect of the opcode at its place
+pub record EffectTable (table : List ℕ) : Type 0 where
+  pub long : length table ≡ 71
+  pub entry : (opcode : ℕ) → opcode < 71 → FixedEffect opcode (pairOf (getD table opcode 0))

@@ -1,21 +1,21 @@
 // The stack usage pass, beside stack_usage_verifier.rs: what each instruction pops and pushes, the height of the stack over a block, and the
 // verdict over the blocks as listed. The unit was read: `s` are its bytes, `index` and `view` say where its records and instructions stand.
+use code_views::Block;
 use file_format::FunctionHandleIndex;
 use file_format::FunctionInstantiationIndex;
 use file_format::StructDefInstantiationIndex;
 use file_format::StructDefinitionIndex;
+use handle_views::FunctionHandle;
+use handle_views::FunctionHandleResult;
+use handle_views::FunctionInstantiationResult;
+use handle_views::StructInstantiationResult;
 use record_views::Fields;
 use status::Position;
 use status::StatusCode;
 use status::Verdict;
 use unit::View;
-use unit_views::Block;
-use unit_views::FunctionHandle;
-use unit_views::FunctionHandleResult;
-use unit_views::FunctionInstantiationResult;
 use unit_views::SignatureResult;
 use unit_views::StructDefResult;
-use unit_views::StructInstantiationResult;
 ghost use mathlib.Core.Path.{_≡_};
 ghost use Prim.Native.Nat.{_<_, _≤_};
 ghost use Rattle.definitions.specs.Result.{_>>?_};
@@ -24,12 +24,13 @@ ghost use Rattle.definitions.specs.Reader.{compiledUnit};
 ghost use Rattle.definitions.specs.StackUsage.{_⇒_, callEffect, fieldCountAt, fieldCountOfInstantiation, heightAfter, verifyBlock};
 ghost use Rattle.definitions.specs.Verify.{stackUsage};
 ghost use Rattle.unit.specs.Views.{UnitRead};
-ghost use Rattle.unit_views.specs.Answers.{blockOf, handleOf};
+ghost use Rattle.code_views.specs.Answers.{blockOf};
+ghost use Rattle.handle_views.specs.Answers.{handleOf};
 ghost use Rattle.stack_usage_verifier.specs.Effects.{FixedEffect, EffectTable};
 ghost use Rattle.stack_usage_verifier.specs.Answers.{effectResult, countResult, heightResult, blockResult, InstructionEffectAt};
 
 // How many values an opcode pops, and how many it then pushes.
-pub struct Effect(pub u8, pub u8);
+struct Effect(u8, u8);
 
 // The pops and the pushes of an instruction, or the status of a refusal: the Rust's `PartialVMResult<(u64, u64)>`.
 pub enum EffectResult {
@@ -55,95 +56,97 @@ pub enum BlockResult {
     Refused(StatusCode),
 }
 
-// The effects of the opcodes 0 to 70. Those that look theirs up have a pair here that is not read.
-pub const EFFECTS: [Effect; 71] = [
-    Effect(1, 0), // Pop
-    Effect(0, 0), // Ret, not read
-    Effect(1, 0), // BrTrue
-    Effect(1, 0), // BrFalse
-    Effect(0, 0), // Branch
-    Effect(0, 1), // LdU8
-    Effect(0, 1), // LdU64
-    Effect(0, 1), // LdU128
-    Effect(1, 1), // CastU8
-    Effect(1, 1), // CastU64
-    Effect(1, 1), // CastU128
-    Effect(0, 1), // LdConst
-    Effect(0, 1), // LdTrue
-    Effect(0, 1), // LdFalse
-    Effect(0, 1), // CopyLoc
-    Effect(0, 1), // MoveLoc
-    Effect(1, 0), // StLoc
-    Effect(0, 0), // Call, not read
-    Effect(0, 0), // CallGeneric, not read
-    Effect(0, 0), // Pack, not read
-    Effect(0, 0), // PackGeneric, not read
-    Effect(0, 0), // Unpack, not read
-    Effect(0, 0), // UnpackGeneric, not read
-    Effect(1, 1), // ReadRef
-    Effect(2, 0), // WriteRef
-    Effect(1, 1), // FreezeRef
-    Effect(0, 1), // MutBorrowLoc
-    Effect(0, 1), // ImmBorrowLoc
-    Effect(1, 1), // MutBorrowField
-    Effect(1, 1), // MutBorrowFieldGeneric
-    Effect(1, 1), // ImmBorrowField
-    Effect(1, 1), // ImmBorrowFieldGeneric
-    Effect(1, 1), // MutBorrowGlobal
-    Effect(1, 1), // MutBorrowGlobalGeneric
-    Effect(1, 1), // ImmBorrowGlobal
-    Effect(1, 1), // ImmBorrowGlobalGeneric
-    Effect(2, 1), // Add
-    Effect(2, 1), // Sub
-    Effect(2, 1), // Mul
-    Effect(2, 1), // Mod
-    Effect(2, 1), // Div
-    Effect(2, 1), // BitOr
-    Effect(2, 1), // BitAnd
-    Effect(2, 1), // Xor
-    Effect(2, 1), // Or
-    Effect(2, 1), // And
-    Effect(1, 1), // Not
-    Effect(2, 1), // Eq
-    Effect(2, 1), // Neq
-    Effect(2, 1), // Lt
-    Effect(2, 1), // Gt
-    Effect(2, 1), // Le
-    Effect(2, 1), // Ge
-    Effect(1, 0), // Abort
-    Effect(0, 0), // Nop
-    Effect(1, 1), // Exists
-    Effect(1, 1), // ExistsGeneric
-    Effect(1, 1), // MoveFrom
-    Effect(1, 1), // MoveFromGeneric
-    Effect(2, 0), // MoveTo
-    Effect(2, 0), // MoveToGeneric
-    Effect(2, 1), // Shl
-    Effect(2, 1), // Shr
-    Effect(0, 0), // VecPack, not read
-    Effect(1, 1), // VecLen
-    Effect(2, 1), // VecImmBorrow
-    Effect(2, 1), // VecMutBorrow
-    Effect(2, 0), // VecPushBack
-    Effect(1, 1), // VecPopBack
-    Effect(0, 0), // VecUnpack, not read
-    Effect(3, 0), // VecSwap
+// The effects of the opcodes 0 to 70, each a pair in one byte: the first hexadecimal digit is how many values it pops, the second how many it
+// then pushes. Those that look theirs up have a pair here that is not read. The table is made once for a call and lent, since a constant is
+// made anew wherever it is named.
+const EFFECTS: [u8; 71] = [
+    0x10, // Pop
+    0x00, // Ret, not read
+    0x10, // BrTrue
+    0x10, // BrFalse
+    0x00, // Branch
+    0x01, // LdU8
+    0x01, // LdU64
+    0x01, // LdU128
+    0x11, // CastU8
+    0x11, // CastU64
+    0x11, // CastU128
+    0x01, // LdConst
+    0x01, // LdTrue
+    0x01, // LdFalse
+    0x01, // CopyLoc
+    0x01, // MoveLoc
+    0x10, // StLoc
+    0x00, // Call, not read
+    0x00, // CallGeneric, not read
+    0x00, // Pack, not read
+    0x00, // PackGeneric, not read
+    0x00, // Unpack, not read
+    0x00, // UnpackGeneric, not read
+    0x11, // ReadRef
+    0x20, // WriteRef
+    0x11, // FreezeRef
+    0x01, // MutBorrowLoc
+    0x01, // ImmBorrowLoc
+    0x11, // MutBorrowField
+    0x11, // MutBorrowFieldGeneric
+    0x11, // ImmBorrowField
+    0x11, // ImmBorrowFieldGeneric
+    0x11, // MutBorrowGlobal
+    0x11, // MutBorrowGlobalGeneric
+    0x11, // ImmBorrowGlobal
+    0x11, // ImmBorrowGlobalGeneric
+    0x21, // Add
+    0x21, // Sub
+    0x21, // Mul
+    0x21, // Mod
+    0x21, // Div
+    0x21, // BitOr
+    0x21, // BitAnd
+    0x21, // Xor
+    0x21, // Or
+    0x21, // And
+    0x11, // Not
+    0x21, // Eq
+    0x21, // Neq
+    0x21, // Lt
+    0x21, // Gt
+    0x21, // Le
+    0x21, // Ge
+    0x10, // Abort
+    0x00, // Nop
+    0x11, // Exists
+    0x11, // ExistsGeneric
+    0x11, // MoveFrom
+    0x11, // MoveFromGeneric
+    0x20, // MoveTo
+    0x20, // MoveToGeneric
+    0x21, // Shl
+    0x21, // Shr
+    0x00, // VecPack, not read
+    0x11, // VecLen
+    0x21, // VecImmBorrow
+    0x21, // VecMutBorrow
+    0x20, // VecPushBack
+    0x11, // VecPopBack
+    0x00, // VecUnpack, not read
+    0x30, // VecSwap
 ];
 
 // The table, with its rule: a constant has no contract of its own.
-fn effects() -> [Effect; 71]
+fn effects() -> [u8; 71]
     ensures { λ r. ⌜ EffectTable r ⌝ }
 {
     EFFECTS
 }
 
 // The effect of an opcode that looks nothing up, whatever its operands are.
-fn fixed_effect(opcode: usize) -> Effect
-    requires { ⌜ opcode < 71 ⌝ }
+fn fixed_effect(table: &[u8], opcode: usize) -> Effect
+    requires { ⌜ EffectTable (now table) × (opcode < 71) ⌝ }
     ensures { λ r. ⌜ FixedEffect opcode r ⌝ }
 {
-    let table = effects();
-    table[opcode]
+    let pair = table[opcode];
+    Effect(pair / 16, pair % 16)
 }
 
 // ── effects that are looked up ──
@@ -178,7 +181,7 @@ fn call_effect_at(s: &[u8], index: &[u16], view: View, idx: FunctionHandleIndex)
     requires { ⌜ UnitRead (now s) (now index) view ⌝ }
     ensures { λ r. ⌜ ((p : UnitRead (now (s .entry)) (now (index .entry)) view) → effectResult r ≡ (functionHandleAt (compiledUnit (p .decoded)) (idx .0) >>? callEffect (compiledUnit (p .decoded)))) ⌝ }
 {
-    match unit_views::function_handle_at(s, index, view, idx) {
+    match handle_views::function_handle_at(s, index, view, idx) {
         FunctionHandleResult::Refused(status) => EffectResult::Refused(status),
         FunctionHandleResult::Found(handle) => call_effect(s, index, view, handle),
     }
@@ -194,7 +197,7 @@ fn call_generic_effect_at(
     requires { ⌜ UnitRead (now s) (now index) view ⌝ }
     ensures { λ r. ⌜ ((p : UnitRead (now (s .entry)) (now (index .entry)) view) → effectResult r ≡ (functionInstantiationAt (compiledUnit (p .decoded)) (idx .0) >>? λ inst. functionHandleAt (compiledUnit (p .decoded)) (inst .handle) >>? callEffect (compiledUnit (p .decoded)))) ⌝ }
 {
-    match unit_views::function_instantiation_at(s, index, view, idx) {
+    match handle_views::function_instantiation_at(s, index, view, idx) {
         FunctionInstantiationResult::Refused(status) => EffectResult::Refused(status),
         FunctionInstantiationResult::Found(inst) => call_effect_at(s, index, view, inst.handle),
     }
@@ -227,7 +230,7 @@ fn field_count_of_instantiation(
     requires { ⌜ UnitRead (now s) (now index) view ⌝ }
     ensures { λ r. ⌜ ((p : UnitRead (now (s .entry)) (now (index .entry)) view) → countResult r ≡ fieldCountOfInstantiation (compiledUnit (p .decoded)) (idx .0)) ⌝ }
 {
-    match unit_views::struct_instantiation_at(s, index, view, idx) {
+    match handle_views::struct_instantiation_at(s, index, view, idx) {
         StructInstantiationResult::Refused(status) => FieldCount::Refused(status),
         StructInstantiationResult::Found(inst) => field_count(s, index, view, inst.def),
     }
@@ -256,19 +259,20 @@ fn unpack_effect(fields: FieldCount) -> EffectResult
 // ── the pass ──
 
 // What the i-th instruction pops and pushes.
-fn instruction_effect(s: &[u8], index: &[u16], view: View, i: usize) -> EffectResult
+fn instruction_effect(table: &[u8], s: &[u8], index: &[u16], view: View, i: usize) -> EffectResult
+    requires { ⌜ EffectTable (now table) ⌝ }
     requires { ⌜ UnitRead (now s) (now index) view ⌝ }
     requires { ⌜ i < view .code .count ⌝ }
     ensures { λ r. ⌜ ((p : UnitRead (now (s .entry)) (now (index .entry)) view) → InstructionEffectAt (compiledUnit (p .decoded)) i r) ⌝ }
 {
-    let instruction = unit_views::instruction_at(s, index, view, i);
+    let instruction = code_views::instruction_at(s, index, view, i);
     let opcode = instruction.opcode;
     let x = instruction.operand;
     let n = instruction.count;
     match opcode {
         // Ret
         1 => {
-            let returns = unit_views::returns(s, index, view);
+            let returns = function_views::returns(s, index, view);
             EffectResult::Found(wide(returns.count), 0)
         }
         // Call, CallGeneric
@@ -290,7 +294,7 @@ fn instruction_effect(s: &[u8], index: &[u16], view: View, i: usize) -> EffectRe
         63 => EffectResult::Found(n, 1),
         69 => EffectResult::Found(1, n),
         _ => {
-            let effect = fixed_effect(opcode as usize);
+            let effect = fixed_effect(table, opcode as usize);
             EffectResult::Found(effect.0 as u64, effect.1 as u64)
         }
     }
@@ -311,7 +315,8 @@ fn height_after(height: u64, pops: u64, pushes: u64) -> Height
 }
 
 // A block, from its first to its last instruction: each block starts at height 0, and ends there.
-fn verify_block(s: &[u8], index: &[u16], view: View, block: Block) -> BlockResult
+fn verify_block(table: &[u8], s: &[u8], index: &[u16], view: View, block: Block) -> BlockResult
+    requires { ⌜ EffectTable (now table) ⌝ }
     requires { ⌜ UnitRead (now s) (now index) view ⌝ }
     requires { ⌜ (block .first ≤ block .last) × (block .last < view .code .count) ⌝ }
     ensures { λ r. ⌜ ((p : UnitRead (now (s .entry)) (now (index .entry)) view) → blockResult r ≡ verifyBlock (compiledUnit (p .decoded)) (blockOf block)) ⌝ }
@@ -320,7 +325,7 @@ fn verify_block(s: &[u8], index: &[u16], view: View, block: Block) -> BlockResul
     let mut height = 0u64;
     let mut i = block.first as usize;
     while i <= last {
-        match instruction_effect(s, index, view, i) {
+        match instruction_effect(table, s, index, view, i) {
             EffectResult::Refused(status) => {
                 return BlockResult::Refused(status);
             }
@@ -347,12 +352,13 @@ pub fn verify(s: &[u8], index: &[u16], view: View) -> Verdict
     requires { ⌜ UnitRead (now s) (now index) view ⌝ }
     ensures { λ r. ⌜ ((p : UnitRead (now (s .entry)) (now (index .entry)) view) → r ≡ stackUsage (compiledUnit (p .decoded))) ⌝ }
 {
+    let table = effects();
     let blocks = view.blocks;
     let count = blocks.count as usize;
     let mut block_id = 0usize;
     while block_id < count {
-        let block = unit_views::block_at(s, index, view, block_id);
-        match verify_block(s, index, view, block) {
+        let block = code_views::block_at(s, index, view, block_id);
+        match verify_block(&table, s, index, view, block) {
             BlockResult::Refused(status) => {
                 return status::refusal_at(status, Position::BlockStart(block.first));
             }

@@ -14,17 +14,21 @@ use Rattle.definitions.specs.CompiledUnit.{CompiledUnit}
 use Rattle.definitions.specs.Abilities.{abilities}
 use Rattle.definitions.specs.Machine.{Step, _>>=_, look}
 use Rattle.definitions.specs.Places.{TypeAt}
-use Rattle.file_format.specs.AbilitySet.{abilityOf}
+use Rattle.file_format.specs.AbilitySet.{abilityOf, setOf}
+use Rattle.file_format.specs.declared.AbilitySet.{AbilitySet}
 use Rattle.file_format.specs.declared.Ability.{Ability}
 use Rattle.file_format.specs.declared.Abilities.{Abilities}
-use Rattle.binary_views.specs.Abilities.{resultOf, answer-back}
+use Rattle.file_format.specs.declared.Abilities.the-variants.{Found}
+use Rattle.binary_views.specs.Abilities.{resultOf, leafSet, leaf-is, answer-back}
+use Rattle.signature_token.specs.TokenLaws.{IsLeaf}
 use Rattle.type_stack.specs.Stepping.{StepsTo, look-then, look-bad}
 use Rattle.type_stack.specs.declared.Stepped.{Stepped}
 use Rattle.type_stack.specs.declared.Stepped.the-variants as stepped
 use Rattle.unit.specs.declared.View.{View}
 use Rattle.unit.specs.Views.{UnitRead}
-use Rattle.unit_views.specs.Tables.{unit-short}
-use Rattle.unit_views.specs.Answers.{AbilitiesIs, TypeIs, type-found, type-refused}
+use Rattle.unit_tables.specs.Tables.{unit-short}
+use Rattle.ability_views.specs.Answers.{AbilitiesIs}
+use Rattle.unit_views.specs.Answers.{TypeIs, type-found, type-refused}
 use Rattle.unit_views.specs.declared.TypeResult.{TypeResult}
 use Rattle.step_views.specs.declared.Checked.{Checked}
 use Rattle.step_views.specs.declared.Checked.the-variants.{Passed, Refused}
@@ -45,6 +49,15 @@ pub ability-asked :
     r ≡ checkedBy ability status (resultOf set) → AbilityIs u t ability status r
 ability-asked {u} {t} {ability = ability} {status} w e = record {
   is = e ∙ ap (λ (a : Abilities). checkedBy ability status (resultOf a)) (w .is) ∙ ap (checkedBy ability status) (answer-back (abilities u t));
+}
+
+-- a leaf is asked by its command
+pub leaf-asked :
+    {u : CompiledUnit} {t : SignatureToken} {b : ℕ} {set : AbilitySet} {ability : Ability} {status : StatusCode} {r : Checked} → IsLeaf t b →
+    set ≡ setOf (leafSet b) → r ≡ checkedBy ability status (resultOf (Found set)) → AbilityIs u t ability status r
+unfolding abilities
+leaf-asked {u} {t} {ability = ability} {status} l g e = record {
+  is = e ∙ ap (λ (a : AbilitySet). checkedBy ability status (ok (a .0))) g ∙ ap (checkedBy ability status) (sym (leaf-is (u .structHandles) (u .function .typeParameters) l));
 }
 
 -- what an answer tells a step that looks at the abilities: the ability is held, or the step is refused as r says, either at the look-up or

@@ -19,7 +19,7 @@ use Rattle.type_stack.specs.declared.Stepped.the-variants as stepped
 use Rattle.unit_views.specs.declared.SignatureResult.{SignatureResult}
 use Rattle.unit_views.specs.declared.StructDefResult.{StructDefResult}
 use Rattle.unit_views.specs.Answers.{SignatureIs, signature-found, signature-refused, StructDefIs, def-found, def-refused}
-use Rattle.unit_views.specs.Told.{Told, is-told}
+use Rattle.handle_views.specs.Told.{Told, is-told}
 use Rattle.step_views.specs.declared.StructWith.{StructWith}
 use Rattle.step_views.specs.declared.StructWithResult.{StructWithResult}
 use Rattle.step_views.specs.Structs.{WithIs, StructWithIs, struct-found}

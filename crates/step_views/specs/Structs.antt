@@ -15,12 +15,13 @@ use Rattle.record_views.specs.Records.{ListIs, DefIs}
 use Rattle.type_stack.specs.Stepping.{StepsTo, look-then, look-bad}
 use Rattle.type_stack.specs.declared.Stepped.{Stepped}
 use Rattle.type_stack.specs.declared.Stepped.the-variants as stepped
-use Rattle.unit_views.specs.declared.StructDefInstantiation.{StructDefInstantiation}
+use Rattle.handle_views.specs.declared.StructDefInstantiation.{StructDefInstantiation}
 use Rattle.unit_views.specs.declared.SignatureResult.{SignatureResult}
 use Rattle.unit_views.specs.declared.StructDefResult.{StructDefResult}
-use Rattle.unit_views.specs.declared.StructInstantiationResult.{StructInstantiationResult}
-use Rattle.unit_views.specs.Answers.{SignatureIs, signature-found, signature-refused, StructDefIs, def-found, def-refused, structInstantiationAnswer}
-use Rattle.unit_views.specs.Told.{struct-instantiation, is-told}
+use Rattle.handle_views.specs.declared.StructInstantiationResult.{StructInstantiationResult}
+use Rattle.unit_views.specs.Answers.{SignatureIs, signature-found, signature-refused, StructDefIs, def-found, def-refused}
+use Rattle.handle_views.specs.Answers.{structInstantiationAnswer}
+use Rattle.handle_views.specs.Told.{struct-instantiation, is-told}
 use Rattle.step_views.specs.declared.StructWith.{StructWith}
 use Rattle.step_views.specs.declared.StructWithResult.{StructWithResult}
 use Rattle.step_views.specs.declared.StructWithResult.the-variants.{Found, Refused}

@@ -5,13 +5,14 @@ use file_format::Ability;
 use file_format::StructDefInstantiationIndex;
 use file_format::StructDefinitionIndex;
 use file_format::StructHandleIndex;
+use handle_views::StructInstantiationResult;
 use record_views::StructDef;
 use record_views::TypeList;
+use signature_token::Token;
 use status::StatusCode;
 use unit::View;
 use unit_views::SignatureResult;
 use unit_views::StructDefResult;
-use unit_views::StructInstantiationResult;
 ghost use mathlib.Core.Path.{_≡_};
 ghost use Rattle.definitions.specs.CompiledUnit as defs;
 ghost use Rattle.definitions.specs.Places.{TypeAt};
@@ -69,7 +70,7 @@ pub fn generic_struct(
     requires { ⌜ UnitRead (now s) (now index) view ⌝ }
     ensures { λ r. ⌜ ((p : UnitRead (now (s .entry)) (now (index .entry)) view) → StructWithIs (now (s .entry)) (defs.genericStruct (compiledUnit (p .decoded)) (idx .0)) r) ⌝ }
 {
-    match unit_views::struct_instantiation_at(s, index, view, idx) {
+    match handle_views::struct_instantiation_at(s, index, view, idx) {
         StructInstantiationResult::Refused(status) => StructWithResult::Refused(status),
         StructInstantiationResult::Found(inst) => {
             match unit_views::struct_def_at(s, index, view, inst.def) {
@@ -104,8 +105,8 @@ fn check_set(abilities: Abilities, ability: Ability, status: StatusCode) -> Chec
     }
 }
 
-// `verifier.abilities(&type)?`, asked for an ability, of the type at `at` of ty, which is the unit or the area.
-pub fn check_ability(
+// Asks the abilities of the type at `at` of ty for one, as the unit's tables tell them.
+fn check_looked_up(
     ty: &[u8],
     at: usize,
     s: &[u8],
@@ -119,10 +120,33 @@ pub fn check_ability(
     ensures { λ r. ⌜ ((p : UnitRead (now (s .entry)) (now (index .entry)) view) (q : TypeAt (now (ty .entry)) at) → AbilityIs (compiledUnit (p .decoded)) (q .type) ability status r) ⌝ }
 {
     check_set(
-        unit_views::abilities(ty, at, s, index, view),
+        ability_views::abilities(ty, at, s, index, view),
         ability,
         status,
     )
+}
+
+// `verifier.abilities(&type)?`, asked for an ability, of the type at `at` of ty, which is the unit or the area. A leaf's are known by its
+// command alone: most types that are asked are leaves, and the unit's tables are left aside for them.
+pub fn check_ability(
+    ty: &[u8],
+    at: usize,
+    s: &[u8],
+    index: &[u16],
+    view: View,
+    ability: Ability,
+    status: StatusCode,
+) -> Checked
+    requires { ⌜ TypeAt (now ty) at ⌝ }
+    requires { ⌜ UnitRead (now s) (now index) view ⌝ }
+    ensures { λ r. ⌜ ((p : UnitRead (now (s .entry)) (now (index .entry)) view) (q : TypeAt (now (ty .entry)) at) → AbilityIs (compiledUnit (p .decoded)) (q .type) ability status r) ⌝ }
+{
+    let token = signature_token::token_at(ty, at);
+    let Token::Leaf(command) = token else {
+        return check_looked_up(ty, at, s, index, view, ability, status);
+    };
+    let set = binary_views::leaf_abilities(command);
+    check_set(Abilities::Found(set), ability, status)
 }
 
 // The same of a struct with the type arguments that stand in the unit. It is not written out to be asked.
@@ -140,7 +164,7 @@ pub fn check_struct_ability(
     ensures { λ r. ⌜ ((p : UnitRead (now (s .entry)) (now (index .entry)) view) (q : TypesIn (now (s .entry)) «type_args») → AbilityIs (compiledUnit (p .decoded)) (materializeType (h .0) (q .types)) ability status r) ⌝ }
 {
     check_set(
-        unit_views::struct_abilities(s, index, view, h, type_args),
+        ability_views::struct_abilities(s, index, view, h, type_args),
         ability,
         status,
     )

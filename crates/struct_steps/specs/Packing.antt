@@ -17,7 +17,7 @@ use Rattle.definitions.specs.TypeSafety.{declaredFields, structType, typeFields
 use Rattle.record_views.specs.declared.TypeList.{TypeList}
 use Rattle.record_views.specs.declared.Fields.{Fields}
 use Rattle.record_views.specs.Records.{TypesIn, FieldsAre}
-use Rattle.signature_token.specs.Lists.{PlacesAt}
+use Rattle.type_places.specs.Places.{PlacesAt}
 use Rattle.substitution.specs.Past.{each-past}
 use Rattle.type_stack.specs.Held.{Here}
 use Rattle.type_stack.specs.Stepping.{StepsTo, look-then, look-bad, check-then, check-bad, pop-then, pop-none, and-then, and-bad, nested}

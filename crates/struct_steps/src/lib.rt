@@ -33,7 +33,7 @@ fn pack_fields(
 {
     let n = type_args.count;
     let mut args = [0u16; 255];
-    signature_token::type_places(s, type_args.at, n, &mut args);
+    type_places::type_places(s, type_args.at, n, &mut args);
     match list_steps::instantiates_each(s, fields, &args[..n]) {
         Instantiates::Past => Stepped::Refused(StatusCode::OUT_OF_TABLE),
         Instantiates::All => {
@@ -82,7 +82,7 @@ fn unpack_fields(
 {
     let n = type_args.count;
     let mut args = [0u16; 255];
-    signature_token::type_places(s, type_args.at, n, &mut args);
+    type_places::type_places(s, type_args.at, n, &mut args);
     match list_steps::instantiates_each(s, fields, &args[..n]) {
         Instantiates::Past => Stepped::Refused(StatusCode::OUT_OF_TABLE),
         Instantiates::All => list_steps::push_each(area, weight, s, fields, &args[..n]),

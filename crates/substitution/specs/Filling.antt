@@ -1,5 +1,5 @@
 -- A walk that knows that the parameters of a type are replaced by something: the bytes that come of it, from the type down to the types
--- below it; and the walk along the types of a list, which every walk of this crate has in common.
+-- below it; and the walk along the types of a list, which the size, the writer and the comparison have in common.
 use mathlib.Core.Path.{_≡_, refl, sym, ap, _∙_}
 use mathlib.Core.List.{List, [], _++_, append-nil}
 use Prim.Native.Nat.{ℕ, _+_, _-_, _≤_, _<_}
@@ -18,7 +18,7 @@ use Rattle.signature_token.specs.Token.{TokenAt}
 use Rattle.signature_token.specs.TokenLaws.{leaf-at, leaf-long, wrapped-at, struct-at, instantiation-at, none-is}
 use Rattle.signature_token.specs.Lists.{Rest, next-is, rest-next}
 use Rattle.signature_token.specs.Ends.{type-room}
-use Rattle.substitution.specs.Bytes.{part-long, Fits}
+use Rattle.byte_parts.specs.Bytes.{part-long, Fits}
 use Rattle.substitution.specs.Instantiate.{Arguments, filled, filledAll, after, after-nil, after-after, after-ok, filled-none, filled-more, leaf-filled, struct-filled, wrapped-filled, instantiation-filled, parameter-filled, Replaced, argument-of}
 
 -- ── the words ──

@@ -1,5 +1,5 @@
 -- The bytes of a type whose parameters are replaced, by what `token_at` found of it: each type gives its own command's bytes and then the
--- bytes of the types below it, and a parameter gives the bytes of its argument. The laws are those of every walk of this crate.
+-- bytes of the types below it, and a parameter gives the bytes of its argument. The laws are those of every walk: size, writer, comparison.
 use mathlib.Core.Path.{_≡_, refl, sym, ap, _∙_}
 use mathlib.Core.List.{List, [], _∷_, _++_, append-assoc}
 use mathlib.Core.Option.{none}
@@ -211,3 +211,19 @@ unfolding nth _>>?_
 argument-of i places.none e = let z : _≡_ {A = ℕ} 0 1 = cc in absurd (omega arith)
 argument-of zero (places.more {p} {t} h w) e = record { within = omega arith; type = t; stands = h; is = cc }
 argument-of (suc i) (places.more h w) e = let k = argument-of i w e in record { within = omega (arith, k .within); type = k .type; stands = k .stands; is = k .is }
+
+-- ── the type that the bytes are of ──
+
+-- what gave the bytes
+pub record Instantiated (r : Result SignatureToken) (bytes : List ℕ) : Type 0 where
+  pub type : SignatureToken
+  pub here : r ≡ ok type
+  pub is : bytes ≡ encode type
+
+pub instantiated : (t : SignatureToken) (subst : Signature) {bytes : List ℕ} → filled t subst ≡ ok bytes → Instantiated (instantiate t subst) bytes
+unfolding filled _>>?_
+instantiated t subst {bytes} e = go (instantiate t subst) e
+  where
+    go : (r : Result SignatureToken) → (r >>? λ u. ok (encode u)) ≡ ok bytes → Instantiated r bytes
+    go (ok u) k = record { type = u; here = refl; is = cc }
+    go (err z) k = let x : _≡_ {A = ℕ} 0 1 = cc in absurd (omega arith)

@@ -1,5 +1,5 @@
 -- A parameter's number past the arguments is the only way that a type is not instantiated.
-use mathlib.Core.Path.{_≡_, refl, sym, _∙_}
+use mathlib.Core.Path.{_≡_, refl, sym, ap, _∙_}
 use mathlib.Core.List.{[], _∷_}
 use mathlib.Core.Option.{Option, some, none}
 use Prim.Native.Nat.{ℕ}
@@ -8,8 +8,9 @@ use lib.ListN.{getElem?}
 use Rattle.status.specs.declared.StatusCode.{StatusCode}
 use Rattle.status.specs.declared.StatusCode.the-variants.{«OUT_OF_TABLE»}
 use Rattle.definitions.specs.Result.{Result, ok, err, _>>?_, orErr, at as nth}
-use Rattle.definitions.specs.SignatureToken.{SignatureToken, SignatureTokens, Signature, Bool′, U8, U64, U128, Address, Signer, Vector, Struct, StructInstantiation, Reference, MutableReference, TypeParameter, []ᵗ, _∷ᵗ_}
+use Rattle.definitions.specs.SignatureToken.{SignatureToken, SignatureTokens, Signature, Bool′, U8, U64, U128, Address, Signer, Vector, Struct, StructInstantiation, Reference, MutableReference, TypeParameter, []ᵗ, _∷ᵗ_, encode}
 use Rattle.definitions.specs.Substitution.{instantiate, instantiateAll, instantiateEach}
+use Rattle.substitution.specs.Instantiate.{filled}
 
 -- the result, where it is refused, is OUT_OF_TABLE
 record PastOnly {A : Type 0} (r : Result A) : Type 0 where
@@ -63,3 +64,12 @@ instantiate-past t subst {y} e = past-instantiate subst t .is y e
 
 pub each-past : (ts subst : Signature) {y : StatusCode} → instantiateEach ts subst ≡ err y → y ≡ «OUT_OF_TABLE»
 each-past ts subst {y} e = past-instantiateEach subst ts .is y e
+
+-- nothing is made of a type whose bytes are refused
+pub not-instantiated : (t : SignatureToken) (subst : Signature) {y : StatusCode} → filled t subst ≡ err y → instantiate t subst ≡ err «OUT_OF_TABLE»
+unfolding filled _>>?_
+not-instantiated t subst {y} e = go (instantiate t subst) refl e
+  where
+    go : (r : Result SignatureToken) → instantiate t subst ≡ r → (r >>? λ u. ok (encode u)) ≡ err y → r ≡ err «OUT_OF_TABLE»
+    go (ok u) i k = let z : _≡_ {A = ℕ} 0 1 = cc in absurd (omega arith)
+    go (err z) i k = ap err (instantiate-past t subst i)

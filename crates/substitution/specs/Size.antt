@@ -18,7 +18,7 @@ use Rattle.signature_token.specs.TokenLaws.{wrapped-at, instantiation-at}
 use Rattle.signature_token.specs.Ends.{type-room, leaf-end, struct-end, parameter-end}
 use Rattle.substitution.specs.declared.Size.{Size}
 use Rattle.substitution.specs.declared.Size.the-variants.{Bytes, Past}
-use Rattle.substitution.specs.Bytes.{part-long}
+use Rattle.byte_parts.specs.Bytes.{part-long}
 use Rattle.substitution.specs.Instantiate.{Arguments, filled, filledAll, after, leaf-filled, struct-filled, wrapped-filled, instantiation-filled, parameter-filled, argument-is, argument-past}
 use Rattle.substitution.specs.Filling.{Filling, Room, Gone, gone-start, gone-done, gone-past, gone-next, gone-end, turn}
 

@@ -20,7 +20,7 @@ use Rattle.type_stack.specs.declared.Stepped.{Stepped}
 use Rattle.type_stack.specs.declared.Stepped.the-variants.{Next, Refused}
 use Rattle.type_stack.specs.declared.Walk.{Walk}
 use Rattle.type_stack.specs.declared.Walk.the-variants.{Stands, Stopped}
-use Rattle.unit_views.specs.Along.{from-place, upTo, up-to-more, up-to-none, past-end}
+use Rattle.code_views.specs.Along.{from-place, upTo, up-to-more, up-to-none, past-end}
 use Rattle.instructions.specs.Does.{DoesAt}
 
 -- the offset that a walk names

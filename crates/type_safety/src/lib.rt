@@ -1,11 +1,11 @@
 // `verify` of type_safety.rs: the blocks as listed, each from its first to its last instruction, following no jump, past Ret and Abort too.
 // The stack is empty at first and is not cleared between blocks.
+use code_views::Block;
 use status::Position;
 use status::Verdict;
 use type_stack::Stepped;
 use type_stack::Walk;
 use unit::View;
-use unit_views::Block;
 ghost use mathlib.Core.Path.{_≡_};
 ghost use Prim.Native.Nat.{_≤_, _<_};
 ghost use lib.ListN.{length};
@@ -14,7 +14,7 @@ ghost use Rattle.definitions.specs.Verify.{walkBlock, walk, typeSafety};
 ghost use Rattle.locals.specs.Locals.{LocalPlaces};
 ghost use Rattle.type_stack.specs.Held.{Stacked};
 ghost use Rattle.unit.specs.Views.{UnitRead};
-ghost use Rattle.unit_views.specs.Answers.{blockOf};
+ghost use Rattle.code_views.specs.Answers.{blockOf};
 ghost use Rattle.type_safety.specs.Walks.{Walks};
 
 // A block, from the stack that the last one left.
@@ -74,7 +74,7 @@ fn verify_blocks(
     let mut weight = 0usize;
     let mut block_id = 0usize;
     while block_id < count {
-        let block = unit_views::block_at(s, index, view, block_id);
+        let block = code_views::block_at(s, index, view, block_id);
         match verify_block(area, weight, s, index, view, parameters, locals, block) {
             Walk::Stands(next) => {
                 weight = next;

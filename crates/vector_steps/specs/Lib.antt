@@ -1,4 +1,1 @@
-pub mod Elements
-pub mod Found
 pub mod Named
-pub mod Many

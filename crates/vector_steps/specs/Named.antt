@@ -7,10 +7,10 @@ use Prim.Native.Nat.{ℕ}
 use Rattle.status.specs.declared.StatusCode.{StatusCode}
 use Rattle.status.specs.declared.StatusCode.the-variants.{«TYPE_MISMATCH»}
 use Rattle.definitions.specs.Result.{Result, ok, err, _>>?_}
-use Rattle.definitions.specs.SignatureToken.{SignatureToken, U64, same}
-use Rattle.definitions.specs.Substitution.{getVectorElementType, referenceTo}
+use Rattle.definitions.specs.SignatureToken.{SignatureToken}
+use Rattle.definitions.specs.Substitution.{getVectorElementType}
 use Rattle.definitions.specs.CompiledUnit.{CompiledUnit, elementTypeAt}
-use Rattle.definitions.specs.Machine.{Step, _>>=_, _>>_, done, pop, push, look, check}
+use Rattle.definitions.specs.Machine.{Step, _>>=_, done, look, check}
 use Rattle.definitions.specs.TypeSafety.{elementIs}
 use Rattle.definitions.specs.Places.{TypeAt}
 use Rattle.signature_token.specs.Same.{Spans}
@@ -21,7 +21,7 @@ use Rattle.type_stack.specs.declared.Stepped.the-variants.{Next, Refused}
 use Rattle.operand_steps.specs.Operands.{span}
 use Rattle.unit_views.specs.Answers.{TypeIs, type-found, type-refused}
 use Rattle.unit_views.specs.declared.TypeResult.{TypeResult}
-use Rattle.vector_steps.specs.Elements.{isElement, ElementIs, guard-is}
+use Rattle.vector_elements.specs.Elements.{isElement, ElementIs, guard-is}
 use Rattle.step_views.specs.Checks.{found-type, type-then, type-bad}
 
 -- ── the words ──
@@ -37,15 +37,6 @@ namedElement u idx t mutRefOnly = elementTypeAt u idx >>? λ declared. ofElement
 -- r says where it stands
 pub record NamedElement (u : CompiledUnit) (idx : ℕ) (m : Bool) (a : List ℕ) (x l : ℕ) (s : List ℕ) (r : TypeResult) : Type 0 where
   pub is : (p : Spans a x l) → TypeIs s (namedElement u idx (p .type) m) r
-
--- `borrowVectorElement` after its look-up
-unfoldable pub borrowDeclared : Bool → SignatureToken → Step
-borrowDeclared mutRefOnly declared = do
-  index ← pop
-  vectorRef ← pop
-  check (same index U64) «TYPE_MISMATCH»
-  elementIs declared vectorRef mutRefOnly
-  push (referenceTo mutRefOnly declared)
 
 -- ── the look-up and the guard together ──
 

@@ -3,7 +3,7 @@ use mathlib.Core.Path.{refl}
 use native.Mathlib.Omega.{arith}
 use Rattle.definitions.specs.TypeSafety as step
 use Rattle.type_stack.specs.Stepping.{and-then, and-bad, and-stacked}
-use Rattle.unit_views.specs.Tables.{unit-short}
+use Rattle.unit_tables.specs.Tables.{unit-short}
 use Rattle.step_views.specs.Looked.{signature-then, signature-bad, found-types}
 use Rattle.list_steps.specs.Forms.{formed}
 use borrow.Author.Needs.{needs}

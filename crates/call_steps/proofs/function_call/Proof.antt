@@ -3,7 +3,7 @@ use mathlib.Core.Path.{refl}
 use mathlib.Core.List.{[]}
 use Rattle.definitions.specs.TypeSafety as step
 use Rattle.definitions.specs.Places.Standing.{none}
-use Rattle.unit_views.specs.Told.{function-handle}
+use Rattle.handle_views.specs.Told.{function-handle}
 use Rattle.step_views.specs.Looked.{told-then, told-bad}
 use borrow.Author.Needs.{needs}
 use Rattle.call_steps.proofs.function_call.Statement.{statement}

@@ -3,10 +3,11 @@ use mathlib.Core.Path.{refl, sym}
 use native.Mathlib.Omega.{arith}
 use lib.Seq.{length-take-le}
 use Rattle.definitions.specs.TypeSafety as step
-use Rattle.unit_views.specs.Tables.{unit-short}
-use Rattle.unit_views.specs.Told.{function-handle, function-instantiation}
+use Rattle.unit_tables.specs.Tables.{unit-short}
+use Rattle.handle_views.specs.Told.{function-handle, function-instantiation}
 use Rattle.step_views.specs.Looked.{told-then, told-bad, signature-then, signature-bad, found-types}
-use Rattle.list_steps.specs.Made.{list-types, list-small, arguments-of}
+use Rattle.record_views.specs.Reread.{types-at}
+use Rattle.list_steps.specs.Made.{list-small, arguments-of}
 use borrow.Author.Needs.{needs}
 use Rattle.call_steps.proofs.function_call_generic.Statement.{statement}
 use Rattle.call_steps.proofs.function_call_generic.Tie as tie
@@ -26,7 +27,7 @@ function-call-generic-spec =
     (λ c. search needs)
     (λ c. search needs)
     (λ c. search needs)
-    (λ c κs. let ts = found-types (c .before .before .before .before .signature-at .ensures (c .before .before .before .before .before .before .before .before .before .before .before .before .before .before .before .before .pre .1)) (c .before .before .type-args .given .1) in (list-types ts, (list-small ts, omega (arith, unit-short (c .before .before .before .before .before .before .before .before .before .before .before .before .before .before .before .before .pre .1)))))
+    (λ c κs. let ts = found-types (c .before .before .before .before .signature-at .ensures (c .before .before .before .before .before .before .before .before .before .before .before .before .before .before .before .before .pre .1)) (c .before .before .type-args .given .1) in (types-at ts, (list-small ts, omega (arith, unit-short (c .before .before .before .before .before .before .before .before .before .before .before .before .before .before .before .before .pre .1)))))
     (λ c. omega (arith, list-small (found-types (c .before .before .before .before .before .before .before .signature-at .ensures (c .before .before .before .before .before .before .before .before .before .before .before .before .before .before .before .before .before .before .before .pre .1)) (c .before .before .before .before .before .type-args .given .1))))
     (λ c. sym (length-take-le _ _ (omega (arith, list-small (found-types (c .before .before .before .before .before .before .before .before .signature-at .ensures (c .before .before .before .before .before .before .before .before .before .before .before .before .before .before .before .before .before .before .before .before .pre .1)) (c .before .before .before .before .before .before .type-args .given .1))))))
     (λ c κs. (c .before .before .before .before .before .before .before .before .before .before .before .before .before .before .before .before .before .before .before .before .pre .0, (c .before .before .before .before .before .before .before .before .before .before .before .before .before .before .before .before .before .before .before .before .pre .1, arguments-of (found-types (c .before .before .before .before .before .before .before .before .signature-at .ensures (c .before .before .before .before .before .before .before .before .before .before .before .before .before .before .before .before .before .before .before .before .pre .1)) (c .before .before .before .before .before .before .type-args .given .1)) (c .before .before .before .type-places .ensures))))

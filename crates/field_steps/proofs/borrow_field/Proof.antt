@@ -5,7 +5,7 @@ use native.Mathlib.Omega.{arith}
 use Rattle.type_stack.specs.Stepping.{pop-none, pop-then, check-then, check-bad, look-then, look-bad}
 use Rattle.type_stack.specs.Tops.{topped}
 use Rattle.operand_steps.specs.Operands.{operands}
-use Rattle.unit_views.specs.Tables.{unit-short}
+use Rattle.unit_tables.specs.Tables.{unit-short}
 use Rattle.field_steps.specs.Operand.{not-mutable, a-value, a-reference}
 use Rattle.field_steps.specs.Owners.{found-owner, owner-then, owner-bad}
 use Rattle.field_steps.specs.Program.{borrowByParts, by-parts}

@@ -2,7 +2,7 @@
 use borrow.Author.Needs.{needs}
 use Rattle.definitions.specs.TypeSafety as step
 use mathlib.Core.Path.{refl}
-use Rattle.unit_views.specs.Told.{field-instantiation}
+use Rattle.handle_views.specs.Told.{field-instantiation}
 use Rattle.step_views.specs.Looked.{told-then, told-bad, found-types, signature-then, signature-bad}
 use Rattle.field_steps.proofs.borrow_field_generic.Statement.{statement}
 use Rattle.field_steps.proofs.borrow_field_generic.Tie as tie

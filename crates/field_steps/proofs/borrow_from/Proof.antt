@@ -6,7 +6,8 @@ use native.Mathlib.Omega.{arith}
 use lib.Seq.{length-take-le}
 use Rattle.type_stack.specs.Stepping.{check-then, check-bad}
 use Rattle.step_views.specs.Checks.{found-type, type-then, type-bad}
-use Rattle.list_steps.specs.Made.{list-types, list-small, arguments-of}
+use Rattle.record_views.specs.Reread.{types-at}
+use Rattle.list_steps.specs.Made.{list-small, arguments-of}
 use Rattle.field_steps.specs.Borrows.{borrowFrom}
 use Rattle.field_steps.specs.Program.{struct-test}
 use Rattle.field_steps.proofs.borrow_from.Statement.{statement}
@@ -24,7 +25,7 @@ borrow-from-spec =
     (λ c. search needs)
     (λ c. search needs)
     (λ c. search needs)
-    (λ c κs. let q = c .before .before .before .before .before .before .before .before .before .before .before .pre .1 .1 in (list-types q, (list-small q, omega (arith, c .before .before .before .before .before .before .before .before .before .before .before .pre .1 .2))))
+    (λ c κs. let q = c .before .before .before .before .before .before .before .before .before .before .before .pre .1 .1 in (types-at q, (list-small q, omega (arith, c .before .before .before .before .before .before .before .before .before .before .before .pre .1 .2))))
     (λ c. search needs)
     (λ c. sym (length-take-le _ _ (omega (arith, list-small (c .before .before .before .before .before .before .before .before .before .before .before .before .before .before .before .pre .1 .1)))))
     (λ c κs. (c .before .before .before .before .before .before .before .before .before .before .before .before .before .before .before .pre .0 .0, (found-type (c .before .before .before .before .before .before .before .before .field-at .ensures .is (c .before .before .before .before .before .before .before .before .before .before .before .before .before .before .before .pre .1 .0)) (c .before .before .before .before .before .before .place .given .1), arguments-of (c .before .before .before .before .before .before .before .before .before .before .before .before .before .before .before .pre .1 .1) (c .before .before .before .type-places .ensures))))

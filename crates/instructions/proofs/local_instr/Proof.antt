@@ -12,7 +12,6 @@ unfolding instructionOf verifyInstr
 local-instr-spec =
     tie.close
     (tie.spec
-    (λ c. search needs)
     (λ c κs. search needs)
     (λ c κs. search needs)
     (λ c κs. search needs)
@@ -21,4 +20,4 @@ local-instr-spec =
     (λ c. search needs)
     (λ c p. key-does 15 (omega arith) (c .before .before .move-loc .ensures p))
     (λ c. search needs)
-    (λ c p. key-does 16 (omega (arith, c .before .before .before .before .before .before .before .before .before .pre .1 .1 .1 .0 .from, c .before .before .before .before .before .before .before .before .before .pre .1 .1 .1 .0 .to)) (c .st-loc .ensures p)))
+    (λ c p. key-does 16 (omega (arith, c .before .before .before .before .before .before .before .before .pre .1 .1 .1 .from, c .before .before .before .before .before .before .before .before .pre .1 .1 .1 .to)) (c .st-loc .ensures p)))

@@ -8,8 +8,7 @@ use Rattle.definitions.specs.TypeSafety.{verifyInstr}
 use Rattle.record_views.specs.Records.{instructionOf}
 use Rattle.signature_token.specs.TokenLaws.{is-bool, is-u64}
 use Rattle.type_stack.specs.Stepping.{done-here}
-use Rattle.instructions.specs.Does.{load-does, cast-does, third, Each, by-arm, does-at, key-at, arm-at, between}
-use Rattle.record_reader.specs.Bodies.{operandWidth, widthOf}
+use Rattle.instructions.specs.Does.{load-does, cast-does, third, Each, does-at, key-at, arm-at, between}
 use borrow.Author.Needs.{needs}
 use Rattle.instructions.proofs.verify_instr.Statement.{statement}
 use Rattle.instructions.proofs.verify_instr.Tie as tie
@@ -19,7 +18,7 @@ abbrev keys : List ℕ
 keys = 54 ∷ 53 ∷ 46 ∷ 25 ∷ 24 ∷ 23 ∷ 11 ∷ 4 ∷ 1 ∷ 0 ∷ []
 
 pub verify-instr-spec : {M : Type 1} → statement M
-unfolding instructionOf verifyInstr Each encode operandWidth widthOf
+unfolding instructionOf verifyInstr Each encode
 verify-instr-spec =
     tie.close
     (tie.spec
@@ -39,10 +38,10 @@ verify-instr-spec =
     (λ c κs. third _ (between keys 8 10 8 3 {it = c .before .before .before .before .before .before .instruction-at .result} (refl, (refl, (refl, tt))) (c .before .before .before .before .before .match .rest) (omega arith) (omega arith)))
     (λ c κs. search needs)
     (λ c κs. search needs)
-    (λ c κs. (c .before .before .before .before .before .before .before .before .before .before .before .before .before .before .pre .0, (c .before .before .before .before .before .before .before .before .before .before .before .before .before .before .pre .1 .0, (c .before .before .before .before .before .before .before .before .before .before .before .before .before .before .pre .1 .1 .0, (between keys 14 16 14 3 (refl, (refl, (refl, tt))) (c .before .before .before .before .before .before .before .match .rest) (omega arith) (omega arith), (c .before .before .before .before .before .before .before .before .instruction-at .ensures (c .before .before .before .before .before .before .before .before .before .before .before .before .before .before .pre .1 .0) .narrow (by-arm keys (λ k. operandWidth k ≡ 1) 14 3 (refl, (refl, (refl, tt))) _ (c .before .before .before .before .before .before .before .match .rest) (omega arith) (omega arith))))))))
+    (λ c κs. (c .before .before .before .before .before .before .before .before .before .before .before .before .before .before .pre .0, (c .before .before .before .before .before .before .before .before .before .before .before .before .before .before .pre .1 .0, (c .before .before .before .before .before .before .before .before .before .before .before .before .before .before .pre .1 .1 .0, (between keys 14 16 14 3 (refl, (refl, (refl, tt))) (c .before .before .before .before .before .before .before .match .rest) (omega arith) (omega arith))))))
     (λ c κs. (c .before .before .before .before .before .before .before .before .before .before .before .before .before .before .before .pre .0, (c .before .before .before .before .before .before .before .before .before .before .before .before .before .before .before .pre .1 .0, record { from = omega arith; to = omega arith })))
     (λ c κs. (c .before .before .before .before .before .before .before .before .before .before .before .before .before .before .before .before .pre .0, (c .before .before .before .before .before .before .before .before .before .before .before .before .before .before .before .before .pre .1 .0, record { from = omega arith; to = omega arith })))
-    (λ c κs. (c .before .before .before .before .before .before .before .before .before .before .before .before .before .before .before .before .before .pre .0, (c .before .before .before .before .before .before .before .before .before .before .before .before .before .before .before .before .before .pre .1 .0, (c .before .before .before .before .before .before .before .before .before .before .before .before .before .before .before .before .before .pre .1 .1 .0, (between keys 26 27 23 5 (tt, (tt, (tt, (refl, (refl, tt))))) (c .before .before .before .before .before .before .before .before .before .before .match .rest) (omega arith) (omega arith), (c .before .before .before .before .before .before .before .before .before .before .before .instruction-at .ensures (c .before .before .before .before .before .before .before .before .before .before .before .before .before .before .before .before .before .pre .1 .0) .narrow (by-arm keys (λ k. operandWidth k ≡ 1) 23 5 (tt, (tt, (tt, (refl, (refl, tt))))) _ (c .before .before .before .before .before .before .before .before .before .before .match .rest) (omega arith) (omega arith))))))))
+    (λ c κs. (c .before .before .before .before .before .before .before .before .before .before .before .before .before .before .before .before .before .pre .0, (c .before .before .before .before .before .before .before .before .before .before .before .before .before .before .before .before .before .pre .1 .0, (c .before .before .before .before .before .before .before .before .before .before .before .before .before .before .before .before .before .pre .1 .1 .0, (between keys 26 27 23 5 (tt, (tt, (tt, (refl, (refl, tt))))) (c .before .before .before .before .before .before .before .before .before .before .match .rest) (omega arith) (omega arith))))))
     (λ c κs. (c .before .before .before .before .before .before .before .before .before .before .before .before .before .before .before .before .before .pre .0, (c .before .before .before .before .before .before .before .before .before .before .before .before .before .before .before .before .before .pre .1 .0, record { from = omega arith; to = omega arith })))
     (λ c κs. (c .before .before .before .before .before .before .before .before .before .before .pre .0, (c .before .before .before .before .before .before .before .before .before .before .pre .1 .0, record { from = omega arith; to = omega arith })))
     (λ c κs. search needs)

@@ -3,7 +3,8 @@ use mathlib.Core.Path.{sym}
 use native.Mathlib.Omega.{arith}
 use lib.Seq.{length-take-le}
 use borrow.Author.Needs.{needs}
-use Rattle.list_steps.specs.Made.{list-types, list-small, arguments-of}
+use Rattle.record_views.specs.Reread.{types-at}
+use Rattle.list_steps.specs.Made.{list-small, arguments-of}
 use Rattle.list_steps.proofs.pop_each.Statement.{statement}
 use Rattle.list_steps.proofs.pop_each.Tie as tie
 
@@ -12,7 +13,7 @@ pop-each-spec =
     tie.close
     (tie.spec
     (λ c. search needs)
-    (λ c κs. (list-types (c .before .before .before .before .pre .1 .0 .0), (list-small (c .before .before .before .before .pre .1 .0 .0), omega (arith, c .before .before .before .before .pre .1 .0 .1))))
+    (λ c κs. (types-at (c .before .before .before .before .pre .1 .0 .0), (list-small (c .before .before .before .before .pre .1 .0 .0), omega (arith, c .before .before .before .before .pre .1 .0 .1))))
     (λ c. search needs)
     (λ c. sym (length-take-le _ _ (omega (arith, list-small (c .before .before .before .before .before .before .before .pre .1 .0 .0)))))
     (λ c κs. (c .before .before .before .before .before .before .before .pre .0, (arguments-of (c .before .before .before .before .before .before .before .pre .1 .0 .0) (c .before .before .type-places .ensures), c .before .before .before .before .before .before .before .pre .1 .1)))

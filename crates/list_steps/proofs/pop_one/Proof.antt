@@ -1,6 +1,6 @@
 -- The stack is empty, or its top is compared, and the answer is that of the comparison.
 use Rattle.definitions.specs.Machine.{popOne}
-use Rattle.substitution.specs.declared.Comparison.the-variants.{Same, Differs, Past}
+use Rattle.substitution_comparison.specs.declared.Comparison.the-variants.{Same, Differs, Past}
 use Rattle.type_stack.specs.Stepping.{pop-none}
 use borrow.Author.Needs.{needs}
 use Rattle.list_steps.specs.Pops.{top-span, pop-compared}

@@ -3,7 +3,7 @@ use native.Mathlib.Omega.{arith}
 use borrow.Author.Needs.{needs}
 use Rattle.definitions.specs.Places.{none}
 use Rattle.definitions.specs.TypeSafety as step
-use Rattle.unit_views.specs.Tables.{unit-short}
+use Rattle.unit_tables.specs.Tables.{unit-short}
 use Rattle.list_steps.specs.Forms.{formed}
 use Rattle.list_steps.proofs.ret_step.Statement.{statement}
 use Rattle.list_steps.proofs.ret_step.Tie as tie

@@ -1,8 +1,9 @@
 -- The bytes from the type's start to its end are pushed.
-use Rattle.local_steps.specs.Pushes.{type-part, pushes-type}
+use Rattle.copied_pushes.specs.Standing.{type-part}
+use Rattle.local_steps.specs.Pushes.{pushes-type}
 use borrow.Author.Needs.{needs}
 use Rattle.local_steps.proofs.push_type.Statement.{statement}
 use Rattle.local_steps.proofs.push_type.Tie as tie
 
 pub push-type-spec : {M : Type 1} → statement M
-push-type-spec = tie.close (tie.spec (λ c κs. search needs) (λ c κs. (c .before .before .before .before .pre .0, type-part (c .before .end-of-type .ensures) (c .before .before .before .before .pre .1 .0) (c .before .before .before .before .pre .1 .1))) (λ c. search needs) (λ c. pushes-type (c .before .before .before .before .end-of-type .ensures) (c .before .before .push-part .ensures)))
+push-type-spec = tie.close (tie.spec (λ c κs. search needs) (λ c κs. (c .before .before .before .before .pre .0, type-part (c .before .before .before .before .pre .1 .0) (c .before .end-of-type .ensures) (c .before .before .before .before .pre .1 .1))) (λ c. search needs) (λ c. pushes-type (c .before .before .before .before .end-of-type .ensures) (c .before .before .push-part .ensures)))

@@ -3,7 +3,7 @@ use Rattle.definitions.specs.TypeSafety as step
 use mathlib.Core.Path.{sym, _∙_}
 use Rattle.type_stack.specs.Stepping.{pop-none, pop-then, check-last, check-last-bad}
 use Rattle.operand_steps.specs.Operands.{span}
-use Rattle.local_steps.specs.Inner.{top-span}
+use Rattle.local_steps.specs.Pushes.{top-span}
 use Rattle.step_views.specs.Checks.{type-then, type-bad, unit-type}
 use Rattle.locals.specs.Locals.{local-type}
 use borrow.Author.Needs.{needs}

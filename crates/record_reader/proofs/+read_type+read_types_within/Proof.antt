@@ -1,6 +1,6 @@
--- A type and a list of types, which call each other: with each call one level less is allowed. The measure is twice the levels, and one more
--- for a list, which goes down to its types at the same level.
-use mathlib.Core.Path.{_≡_, sym, _∙_}
+-- A type and a list of types, which call each other: with each command of a type one level less is allowed. The measure is twice the levels,
+-- and one more for a list, which goes down to its types at the same level.
+use mathlib.Core.Path.{_≡_, refl, sym, _∙_}
 use Prim.Native.Nat.{ℕ, _+_, _-_, _*_, _≤_, _<_}
 use native.Mathlib.Omega.{arith}
 use borrow.Author.Needs.{needs}
@@ -60,20 +60,29 @@ abbrev claims : ℕ → read-type-lts.Claims
 claims t = (
   type-shape-reads.Asked,
   type-shape-reads.Learnt,
-  read-type-below t,
-  read-type.Post,
   skip-bytes-reads.Asked,
   skip-bytes-reads.Learnt,
   read-types-within-below t,
   read-types-within.Post,
 )
 
+-- the type is what stands at p with so many levels left
+abbrev read-type-Inv-loop : read-type-lts.InvT-loop
+read-type-Inv-loop s at levels p₀ left₀ p left =
+    (left ≤ levels) × ((head : Head) → readTo (typeWithin (commandsOf head) levels s at) ≡ readTo (typeWithin (commandsOf head) left s p))
+
+abbrev read-type-μ-loop : read-type-lts.MeasureT-loop
+read-type-μ-loop s at levels p₀ left₀ p left = left
+
 -- once the command's shape is told, the rest of the type is read by it
 shaped :
-    (t : ℕ) (c : read-type-lts.After-type-shape (claims t) (read-type-at t) read-type.Post) (head : Head) {shape : TypeShape} → c .type-shape .result ≡ shape →
-    restTo (typeWithin (commandsOf head) (c .before .before .before .before .before .args .levels - 1)) (c .before .before .before .before .before .args .at) shape (c .before .before .before .before .before .args .s .now) (c .before .before .before .before .before .args .at + 1)
-    ≡ readTo (typeWithin (commandsOf head) (c .before .before .before .before .before .args .levels) (c .before .before .before .before .before .args .s .now) (c .before .before .before .before .before .args .at))
-shaped t c head e = type-shaped head _ _ (c .before .before .before .if1 .left) (c .before .before .before .before .before .args .levels) (c .before .before .if2 .left) (sym e ∙ c .type-shape .ensures)
+    (t : ℕ) (c : read-type-lts.After-type-shape (claims t) (read-type-at t) read-type.Post read-type-Inv-loop read-type-μ-loop) (head : Head) {shape : TypeShape} →
+    c .type-shape .result ≡ shape →
+    restTo (typeWithin (commandsOf head) (c .before .before .before .before .loop .left - 1)) (c .before .before .before .before .loop .p) shape (c .before .before .before .before .before .before .args .s .now) (c .before .before .before .before .loop .p + 1)
+    ≡ readTo (typeWithin (commandsOf head) (c .before .before .before .before .before .before .args .levels) (c .before .before .before .before .before .before .args .s .now) (c .before .before .before .before .before .before .args .at))
+shaped t c head e =
+    type-shaped head _ _ (c .before .before .before .loop-test .taken) (c .before .before .before .before .loop .left) (c .before .before .if1 .left) (sym e ∙ c .type-shape .ensures)
+    ∙ sym (c .before .before .before .before .loop .inv .1 head)
 
 abbrev read-types-within-Inv-loop : read-types-within-lts.InvT-loop
 read-types-within-Inv-loop s at levels count next₀ i₀ next i =
@@ -86,35 +95,38 @@ pub +read-type+read-types-within-spec : {M : Type 1} → statement M
 +read-type+read-types-within-spec = close μ-read-type μ-read-types-within (λ t. read-type-lts.spec (claims t)
     (read-type-at t)
     read-type.Post
-    (λ c head. type-short head _ _ _ (c .if1 .taken))
-    (λ c head. type-deep head _ _ (c .before .if1 .left) _ (c .if2 .taken))
+    read-type-Inv-loop
+    read-type-μ-loop
+    (λ c. (omega arith, λ head. refl))
+    (λ c head. type-deep head _ _ (c .before .loop-test .taken) _ (c .if1 .taken) ∙ sym (c .before .before .loop .inv .1 head))
     (λ c. search needs)
     (λ c κs. search needs)
     (λ c. search needs)
     (λ c. search needs)
+    (λ c head. shaped t (c .before .before) head (c .enum-told .given .1))
     (λ c. search needs)
+    (λ c. search needs)
+    (λ c. search needs)
+    (λ c. omega arith)
+    (λ c. (omega arith, λ head. sym (shaped t (c .before .before) head (c .enum-told2 .given .1))))
+    (λ c. search needs)
+    (λ c. search needs)
+    (λ c κs. search needs)
+    (λ c head. c .skip-bytes .ensures ∙ shaped t (c .before .before .before) head (c .before .enum-told3 .given .1))
     (λ c. search needs)
     (λ c. search needs)
     (λ c κs. search needs)
     (λ c. search needs)
     (λ c. search needs)
-    (λ c κs. search needs)
-    (λ c. search needs)
-    (λ c. search needs)
-    (λ c κs. search needs)
-    (λ c. search needs)
-    (λ c. search needs)
-    (λ c head. refused (skip 2) (λ _. counted (typeWithin (commandsOf head) (c .before .before .before .before .before .before .before .before .before .before .args .levels - 1))) _ _ (c .before .before .skip-bytes2 .ensures) (c .before .match2 .keys2)
+    (λ c head. refused (skip 2) (λ _. counted (typeWithin (commandsOf head) (c .before .before .before .before .before .before .before .before .before .loop .left - 1))) _ _ (c .before .before .skip-bytes2 .ensures) (c .before .match2 .keys2)
     ∙ shaped t (c .before .before .before .before .before) head (c .before .before .before .enum-told4 .given .1))
     (λ c. search needs)
     (λ c κs. search needs)
-    (λ c. search needs)
-    (λ c head. shaped t (c .before .before) head (c .enum-told .given .1))
-    (λ c head. c .read-type .ensures head ∙ shaped t (c .before .before .before) head (c .before .enum-told2 .given .1))
-    (λ c head. c .skip-bytes .ensures ∙ shaped t (c .before .before .before) head (c .before .enum-told3 .given .1))
-    (λ c head. sym (went-on (skip 2) (λ _. counted (typeWithin (commandsOf head) (c .before .before .before .before .before .before .before .before .before .before .before .before .args .levels - 1))) _ _ _ (sym (c .before .before .before .before .skip-bytes2 .ensures) ∙ c .before .before .handle .given .1) (λ _. sym (c .read-types-within .ensures head)))
+    (λ c head. sym (went-on (skip 2) (λ _. counted (typeWithin (commandsOf head) (c .before .before .before .before .before .before .before .before .before .before .before .loop .left - 1))) _ _ _ (sym (c .before .before .before .before .skip-bytes2 .ensures) ∙ c .before .before .handle .given .1) (λ _. sym (c .read-types-within .ensures head)))
     ∙ shaped t (c .before .before .before .before .before .before .before) head (c .before .before .before .before .before .enum-told4 .given .1))
-    (λ c head. shaped t (c .before .before) head (c .enum-told6 .given .1)))
+    (λ c. search needs)
+    (λ c head. shaped t (c .before .before) head (c .enum-told6 .given .1))
+    (λ c head. type-short head _ _ _ (c .loop-test .left) ∙ sym (c .before .loop .inv .1 head)))
     λ t. read-types-within-lts.spec
     (read-type-below t, read-type.Post)
     (read-types-within-at t)

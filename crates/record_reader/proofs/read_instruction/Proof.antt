@@ -2,6 +2,7 @@
 use mathlib.Core.Path.{ap, _∙_}
 use Prim.Native.Nat.{ℕ, _+_, _-_}
 use native.Mathlib.Omega.{arith}
+use lib.ListN.{getD}
 use Rattle.record_reader.specs.ReadTo.{readTo}
 use Rattle.definitions.specs.Reading.{skip}
 use Rattle.record_reader.specs.Bodies.{operandWidth}
@@ -19,7 +20,10 @@ read-instruction-spec =
     (λ c κs. search needs)
     (λ c head. instruction-unknown head _ _ (c .before .before .before .if1 .left) (omega (arith, c .before .wide .ensures .0)))
     (λ c. search needs)
+    (λ c. search needs)
     (λ c κs. search needs)
     (λ c κs. search needs)
-    (λ c head. let byte-is = c .before .before .before .wide .ensures .0 in
-    c .skip-bytes .ensures ∙ ap (λ (n : ℕ). readTo (skip n (c .before .before .before .before .before .before .before .args .s .now) (c .before .before .before .before .before .before .before .args .at + 1))) (c .before .operand-width .ensures ∙ ap operandWidth byte-is) ∙ instruction-taken head _ _ (c .before .before .before .before .before .if1 .left) (omega arith)))
+    (λ c head. let a = c .before .before .before .before .before .before .before .before .before .args in
+    let byte-is = c .before .before .before .before .wide .ensures .0 in
+    let width-is = c .before .wide2 .ensures .0 ∙ c .before .before .before .before .before .before .before .before .before .pre .entry _ (omega arith) ∙ ap operandWidth byte-is in
+    c .skip-bytes .ensures ∙ ap (λ (n : ℕ). readTo (skip n (a .s .now) (a .at + 1))) width-is ∙ instruction-taken head _ _ (c .before .before .before .before .before .before .if1 .left) (omega arith)))

@@ -4,7 +4,7 @@ use native.Mathlib.Omega.{arith}
 use Rattle.definitions.specs.TypeSafety as step
 use Rattle.signature_token.specs.TokenLaws.{is-address}
 use Rattle.type_stack.specs.Stepping.{and-then, and-bad, and-stacked}
-use Rattle.unit_views.specs.Tables.{unit-short}
+use Rattle.unit_tables.specs.Tables.{unit-short}
 use Rattle.step_views.specs.Looked.{struct-types, with-types, with-type}
 use Rattle.resource_steps.specs.Resources.{key-then, key-bad}
 use borrow.Author.Needs.{needs}

@@ -1,5 +1,7 @@
 -- A handle that was found, or its refusal.
-use Rattle.stack_usage_verifier.proofs.Looked.{refused, found, handle-told}
+use mathlib.Core.Path.{sym}
+use Rattle.handle_views.specs.Told.{function-handle, is-told}
+use Rattle.stack_usage_verifier.proofs.Looked.{refused, found}
 use borrow.Author.Needs.{needs}
 use Rattle.stack_usage_verifier.proofs.call_effect_at.Statement.{statement}
 use Rattle.stack_usage_verifier.proofs.call_effect_at.Tie as tie
@@ -12,5 +14,5 @@ call-effect-at-spec =
     (λ c. search needs)
     (λ c. search needs)
     (λ c κs. search needs)
-    (λ c p. refused _ (handle-told _ (c .before .before .before .function-handle-at .ensures p) (c .before .status .given .1)))
-    (λ c p. found _ (handle-told _ (c .before .before .before .before .function-handle-at .ensures p) (c .before .before .handle .given .1)) (c .call-effect .ensures p)))
+    (λ c p. refused _ (sym (is-told function-handle (c .before .before .before .function-handle-at .ensures p) (c .before .status .given .1))))
+    (λ c p. found _ (sym (is-told function-handle (c .before .before .before .before .function-handle-at .ensures p) (c .before .before .handle .given .1))) (c .call-effect .ensures p)))

@@ -1,5 +1,7 @@
 -- An instantiation that was found, or its refusal.
-use Rattle.stack_usage_verifier.proofs.Looked.{refused, found, function-told}
+use mathlib.Core.Path.{sym}
+use Rattle.handle_views.specs.Told.{function-instantiation, is-told}
+use Rattle.stack_usage_verifier.proofs.Looked.{refused, found}
 use borrow.Author.Needs.{needs}
 use Rattle.stack_usage_verifier.proofs.call_generic_effect_at.Statement.{statement}
 use Rattle.stack_usage_verifier.proofs.call_generic_effect_at.Tie as tie
@@ -12,5 +14,5 @@ call-generic-effect-at-spec =
     (λ c. search needs)
     (λ c. search needs)
     (λ c κs. search needs)
-    (λ c p. refused _ (function-told _ (c .before .before .before .function-instantiation-at .ensures p) (c .before .status .given .1)))
-    (λ c p. found _ (function-told _ (c .before .before .before .before .function-instantiation-at .ensures p) (c .before .before .inst .given .1)) (c .call-effect-at .ensures p)))
+    (λ c p. refused _ (sym (is-told function-instantiation (c .before .before .before .function-instantiation-at .ensures p) (c .before .status .given .1))))
+    (λ c p. found _ (sym (is-told function-instantiation (c .before .before .before .before .function-instantiation-at .ensures p) (c .before .before .inst .given .1))) (c .call-effect-at .ensures p)))

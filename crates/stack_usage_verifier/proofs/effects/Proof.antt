@@ -10,7 +10,7 @@ use Rattle.stack_usage_verifier.proofs.effects.Tie as tie
 
 returns : tie.Need-returns
 unfolding agrees looksUp oneOf instructionEffect instructionOf
-returns c = tested _ refl (λ u x n. tt)
+returns c = tested _ refl (λ u l x n. tt)
 
 pub effects-spec : {M : Type 1} → statement M
 effects-spec = tie.close (tie.spec returns)

@@ -69,7 +69,7 @@ instruction-effect-spec =
     (λ c κs. search needs)
     (λ c κs. search needs)
     (λ c. search needs)
-    (λ c κs. c .before .instruction-at .ensures (c .before .before .before .before .pre .0) .known)
+    (λ c κs. (c .before .before .before .before .before .pre .0, c .before .instruction-at .ensures (c .before .before .before .before .before .pre .1 .0) .known))
     (λ c. search needs)
     (λ c. search needs)
     returns

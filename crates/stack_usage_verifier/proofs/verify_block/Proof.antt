@@ -9,10 +9,10 @@ use Rattle.stack_usage_verifier.proofs.verify_block.Statement.{statemen
 use Rattle.stack_usage_verifier.proofs.verify_block.Tie as tie
 
 abbrev Inv-loop : tie.InvT-loop
-Inv-loop s index view last height₀ i₀ height i = (p : UnitRead s index view) → InBlock (compiledUnit (p .decoded)) (record { first = i₀; last = last }) i height
+Inv-loop table s index view last height₀ i₀ height i = (p : UnitRead s index view) → InBlock (compiledUnit (p .decoded)) (record { first = i₀; last = last }) i height
 
 abbrev μ-loop : tie.MeasureT-loop
-μ-loop s index view last height₀ i₀ height i = suc last - i
+μ-loop table s index view last height₀ i₀ height i = suc last - i
 
 pub verify-block-spec : {M : Type 1} → statement M
 verify-block-spec =
@@ -23,7 +23,7 @@ verify-block-spec =
     (λ c. search needs)
     (λ c. search needs)
     (λ c p. block-start _ _)
-    (λ c κs. (c .before .before .before .before .before .before .pre .0, omega arith))
+    (λ c κs. (c .before .before .before .before .before .before .before .pre .0, (c .before .before .before .before .before .before .before .pre .1 .0, omega arith)))
     (λ c. search needs)
     (λ c p.
     let e = c .before .before .before .instruction-effect .ensures p in

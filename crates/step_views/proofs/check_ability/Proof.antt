@@ -1,5 +1,6 @@
--- `check_ability`: the ability is asked of the type's abilities.
-use Rattle.step_views.specs.Checks.{ability-asked}
+-- `check_ability`: a leaf is asked by its command, any other type by the look-up.
+use Rattle.signature_token.specs.TokenLaws.{leaf-at}
+use Rattle.step_views.specs.Checks.{leaf-asked}
 use borrow.Author.Needs.{needs}
 use Rattle.step_views.proofs.check_ability.Statement.{statement}
 use Rattle.step_views.proofs.check_ability.Tie as tie
@@ -9,5 +10,9 @@ check-ability-spec =
     tie.close
     (tie.spec
     (λ c κs. search needs)
+    (λ c. search needs)
     (λ c κs. search needs)
-    (λ c p q. ability-asked (c .before .abilities .ensures p q) (c .check-set .ensures)))
+    (λ c. search needs)
+    (λ c κs. search needs)
+    (λ c κs. search needs)
+    (λ c p q. leaf-asked (leaf-at (c .before .before .before .before .before .token-at .ensures) q (c .before .before .before .token .given .1)) (c .before .leaf-abilities .ensures) (c .check-set .ensures)))

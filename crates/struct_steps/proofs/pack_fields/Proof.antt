@@ -4,7 +4,8 @@ use native.Mathlib.Omega.{arith}
 use lib.Seq.{length-take-le}
 use borrow.Author.Needs.{needs}
 use Rattle.type_stack.specs.Stepping.{and-stacked}
-use Rattle.list_steps.specs.Made.{list-types, list-small, arguments-of}
+use Rattle.record_views.specs.Reread.{types-at}
+use Rattle.list_steps.specs.Made.{list-small, arguments-of}
 use Rattle.struct_steps.specs.Packing.{pack-past, pack-bad, pack-made}
 use Rattle.struct_steps.proofs.pack_fields.Statement.{statement}
 use Rattle.struct_steps.proofs.pack_fields.Tie as tie
@@ -14,7 +15,7 @@ pack-fields-spec =
     tie.close
     (tie.spec
     (λ c. search needs)
-    (λ c κs. let q = c .before .before .before .pre .1 .1 in (list-types q, (list-small q, omega (arith, c .before .before .before .pre .1 .2))))
+    (λ c κs. let q = c .before .before .before .pre .1 .1 in (types-at q, (list-small q, omega (arith, c .before .before .before .pre .1 .2))))
     (λ c. search needs)
     (λ c. sym (length-take-le _ _ (omega (arith, list-small (c .before .before .before .before .before .before .pre .1 .1)))))
     (λ c κs. (c .before .before .before .before .before .before .pre .1 .0, arguments-of (c .before .before .before .before .before .before .pre .1 .1) (c .before .before .type-places .ensures)))

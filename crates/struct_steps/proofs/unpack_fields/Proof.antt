@@ -3,7 +3,8 @@ use mathlib.Core.Path.{sym}
 use native.Mathlib.Omega.{arith}
 use lib.Seq.{length-take-le}
 use borrow.Author.Needs.{needs}
-use Rattle.list_steps.specs.Made.{list-types, list-small, arguments-of}
+use Rattle.record_views.specs.Reread.{types-at}
+use Rattle.list_steps.specs.Made.{list-small, arguments-of}
 use Rattle.struct_steps.specs.Packing.{unpack-past, unpack-made}
 use Rattle.struct_steps.proofs.unpack_fields.Statement.{statement}
 use Rattle.struct_steps.proofs.unpack_fields.Tie as tie
@@ -13,7 +14,7 @@ unpack-fields-spec =
     tie.close
     (tie.spec
     (λ c. search needs)
-    (λ c κs. let q = c .before .before .before .pre .1 .1 in (list-types q, (list-small q, omega (arith, c .before .before .before .pre .1 .2))))
+    (λ c κs. let q = c .before .before .before .pre .1 .1 in (types-at q, (list-small q, omega (arith, c .before .before .before .pre .1 .2))))
     (λ c. search needs)
     (λ c. sym (length-take-le _ _ (omega (arith, list-small (c .before .before .before .before .before .before .pre .1 .1)))))
     (λ c κs. (c .before .before .before .before .before .before .pre .1 .0, arguments-of (c .before .before .before .before .before .before .pre .1 .1) (c .before .before .type-places .ensures)))

@@ -5,7 +5,7 @@ use native.Mathlib.Omega.{arith}
 use borrow.Author.Needs.{needs}
 use Rattle.definitions.specs.Reader.{compiledUnit}
 use Rattle.unit.specs.Views.{UnitRead}
-use Rattle.unit_views.specs.Tables.{table-count, blocks-in}
+use Rattle.unit_tables.specs.Tables.{table-count, blocks-in}
 use Rattle.type_safety.specs.Walks.{InBlocks, in-blocks-start, in-blocks-next, in-blocks-stopped, in-blocks-end}
 use Rattle.type_safety.proofs.verify_blocks.Statement.{statement}
 use Rattle.type_safety.proofs.verify_blocks.Tie as tie

@@ -14,10 +14,10 @@ use Rattle.unit.proofs.read_code.Statement.{statement}
 use Rattle.unit.proofs.read_code.Tie as tie
 
 abbrev Inv-loop : tie.InvT-loop
-Inv-loop s from index₀ base count at₀ n₀ index at n = (h : defs.Head) → InCode (instruction (commandsOf h)) s from base count index₀ index at n
+Inv-loop s from index₀ base count widths at₀ n₀ index at n = (h : defs.Head) → InCode (instruction (commandsOf h)) s from base count index₀ index at n
 
 abbrev μ-loop : tie.MeasureT-loop
-μ-loop s from index₀ base count at₀ n₀ index at n = count - n
+μ-loop s from index₀ base count widths at₀ n₀ index at n = count - n
 
 pub read-code-spec : {M : Type 1} → statement M
 read-code-spec =
@@ -29,31 +29,33 @@ read-code-spec =
     (λ c. omega (arith, c .before .before .before .pre .small))
     (λ c. code-answers-refused _ _ _ _ _ (λ h. code-stops _ _ _ (u16-cut _ _ (c .before .if1 .left) (c .if2 .taken))))
     (λ c κs. omega arith)
-    (λ c. omega (arith, c .before .before .before .before .before .pre .small))
-    (λ c. omega (arith, c .before .before .before .before .before .pre .small))
-    (λ c. λ h. code-start (instruction (commandsOf h)) _ (c .before .before .before .before .before .pre) (c .before .if2 .left))
     (λ c κs. search needs)
+    (λ c. omega (arith, c .before .before .before .before .before .before .pre .small))
+    (λ c. omega (arith, c .before .before .before .before .before .before .pre .small))
+    (λ c. λ h. code-start (instruction (commandsOf h)) _ (c .before .before .before .before .before .before .pre) (c .before .before .if2 .left))
     (λ c. search needs)
-    (λ c. omega (arith, c .before .before .before .before .before .loop .inv defs.Module .long))
-    (λ c. let a = c .before .before .before .before .before .before .before .before .before .before .before .args in
-    let q = u16-next _ _ (c .before .before .before .before .before .before .before .if2 .left) ∙ ap (λ (m : ℕ). read m (a .from + 1 + 1)) (sym (c .before .before .before .before .before .before .u16-at .ensures)) in
+    (λ c κs. c .before .before .before .operand-widths .ensures)
+    (λ c. search needs)
+    (λ c. omega (arith, c .before .before .before .before .before .before .loop .inv defs.Module .long))
+    (λ c. let a = c .before .before .before .before .before .before .before .before .before .before .before .before .before .args in
+    let q = u16-next _ _ (c .before .before .before .before .before .before .before .before .before .if2 .left) ∙ ap (λ (m : ℕ). read m (a .from + 1 + 1)) (sym (c .before .before .before .before .before .before .before .before .u16-at .ensures)) in
     code-answers-refused _ _ _ _ _ (λ h. code-stops-in _ _ _ q
-    (code-refused (c .before .before .before .before .before .loop .inv h) (c .before .before .before .before .loop-test .taken) _ _ (got-refused _ _ _ (sym (c .before .before .before .read-instruction .ensures h) ∙ c .before .status .given .1)))))
+    (code-refused (c .before .before .before .before .before .before .loop .inv h) (c .before .before .before .before .before .loop-test .taken) _ _ (got-refused _ _ _ (sym (c .before .before .before .read-instruction .ensures h) ∙ c .before .status .given .1)))))
     (λ c. search needs)
-    (λ c. let v = c .before .before .before .before .before .loop .inv defs.Module in omega (arith, v .room .small))
-    (λ c. let v = c .before .before .before .before .before .loop .inv defs.Module in omega (arith, v .room .below, v .room .small))
-    (λ c. let v = c .before .before .before .before .before .loop .inv defs.Module in omega (arith, v .room .below, v .room .small))
-    (λ c. let v = c .before .before .before .before .before .loop .inv defs.Module in
+    (λ c. let v = c .before .before .before .before .before .before .loop .inv defs.Module in omega (arith, v .room .small))
+    (λ c. let v = c .before .before .before .before .before .before .loop .inv defs.Module in omega (arith, v .room .below, v .room .small))
+    (λ c. let v = c .before .before .before .before .before .before .loop .inv defs.Module in omega (arith, v .room .below, v .room .small))
+    (λ c. let v = c .before .before .before .before .before .before .loop .inv defs.Module in
     let g = got-next _ _ (sym (c .before .before .before .read-instruction .ensures defs.Module) ∙ c .before .end .given .1) in
     let ends = reads-within (instruction-reaches (commandsOf defs.Module)) _ _ (v .inside) (g .1) in
     omega (arith, v .room .below, v .room .wide, ends .far, ends .within))
-    (λ c. let v = c .before .before .before .before .before .loop .inv defs.Module in omega (arith, v .room .small))
+    (λ c. let v = c .before .before .before .before .before .before .loop .inv defs.Module in omega (arith, v .room .small))
     (λ c. omega arith)
     (λ c. λ h.
     let g = got-next _ _ (sym (c .before .before .before .read-instruction .ensures h) ∙ c .before .end .given .1) in
-    code-more (c .before .before .before .before .before .loop .inv h) (c .before .before .before .before .loop-test .taken) (instruction-reaches (commandsOf h)) (g .0) _ (g .1))
+    code-more (c .before .before .before .before .before .before .loop .inv h) (c .before .before .before .before .before .loop-test .taken) (instruction-reaches (commandsOf h)) (g .0) _ (g .1))
     (λ c κs. let v = c .before .loop .inv defs.Module in omega (arith, v .room .below, v .room .small))
     (λ c. omega (arith, c .before .before .loop .inv defs.Module .long))
-    (λ c. let a = c .before .before .before .before .before .before .before .before .args in
-    let q = u16-next _ _ (c .before .before .before .before .if2 .left) ∙ ap (λ (m : ℕ). read m (a .from + 1 + 1)) (sym (c .before .before .before .u16-at .ensures)) in
+    (λ c. let a = c .before .before .before .before .before .before .before .before .before .args in
+    let q = u16-next _ _ (c .before .before .before .before .before .if2 .left) ∙ ap (λ (m : ℕ). read m (a .from + 1 + 1)) (sym (c .before .before .before .before .u16-at .ensures)) in
     code-answers-read _ _ _ _ _ (λ h. c .before .before .loop .inv h) q (c .before .loop-test .left) (c .records .ensures)))

@@ -1,6 +1,6 @@
 -- `constant_at`: the type that stands behind the record's command.
 use native.Mathlib.Omega.{arith}
-use Rattle.unit_views.specs.Tables.{table-fits, constants-in}
+use Rattle.unit_tables.specs.Tables.{table-fits, constants-in}
 use Rattle.unit_views.specs.Lookups.{constant-past, constant-here}
 use borrow.Author.Needs.{needs}
 use Rattle.unit_views.proofs.constant_at.Statement.{statement}

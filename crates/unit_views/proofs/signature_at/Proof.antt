@@ -1,6 +1,6 @@
 -- `signature_at`: the list that stands behind the record's command.
 use native.Mathlib.Omega.{arith}
-use Rattle.unit_views.specs.Tables.{table-fits, signatures-in}
+use Rattle.unit_tables.specs.Tables.{table-fits, signatures-in}
 use Rattle.unit_views.specs.Lookups.{signature-past, signature-room, signature-here}
 use borrow.Author.Needs.{needs}
 use Rattle.unit_views.proofs.signature_at.Statement.{statement}

@@ -1,6 +1,6 @@
 -- `struct_def_at`: the definition that stands at the record's place; a script has none.
 use native.Mathlib.Omega.{arith}
-use Rattle.unit_views.specs.Tables.{table-fits, structDefs-in}
+use Rattle.unit_tables.specs.Tables.{table-fits, structDefs-in}
 use Rattle.unit_views.specs.Lookups.{def-script, def-past, def-at, def-here}
 use Rattle.record_views.specs.Reread.{def-read}
 use borrow.Author.Needs.{needs}

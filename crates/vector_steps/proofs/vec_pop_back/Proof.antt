@@ -5,8 +5,8 @@ use Rattle.definitions.specs.TypeSafety as step
 use Rattle.type_stack.specs.Stepping.{pop-none, pop-then}
 use Rattle.type_stack.specs.Tops.{topped}
 use Rattle.operand_steps.specs.Operands.{span}
-use Rattle.unit_views.specs.Tables.{unit-short}
-use Rattle.vector_steps.specs.Found.{type-part, push-declared}
+use Rattle.unit_tables.specs.Tables.{unit-short}
+use Rattle.copied_pushes.specs.Standing.{type-part, push-declared}
 use Rattle.vector_steps.specs.Named.{named-type, named-then, named-bad}
 use Rattle.vector_steps.proofs.vec_pop_back.Statement.{statement}
 use Rattle.vector_steps.proofs.vec_pop_back.Tie as tie

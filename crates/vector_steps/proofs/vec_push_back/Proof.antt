@@ -5,8 +5,8 @@ use Rattle.type_stack.specs.Stepping.{two-none, two-then, check-then, check-bad
 use Rattle.type_stack.specs.Tops.{topped-two}
 use Rattle.operand_steps.specs.Operands.{span}
 use Rattle.step_views.specs.Checks.{found-type, type-then, type-bad}
-use Rattle.vector_steps.specs.Found.{same-turned}
-use Rattle.vector_steps.specs.Elements.{element-last, element-last-bad}
+use Rattle.vector_elements.specs.Found.{same-turned}
+use Rattle.vector_elements.specs.Elements.{element-last, element-last-bad}
 use Rattle.vector_steps.proofs.vec_push_back.Statement.{statement}
 use Rattle.vector_steps.proofs.vec_push_back.Tie as tie
 

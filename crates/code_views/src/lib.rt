@@ -1,0 +1,35 @@
+// The code of a unit that was read: `s` are its bytes, `index` and `view` say where its instructions and its listed blocks stand.
+use record_views::Instruction;
+use unit::View;
+ghost use Prim.Native.Nat.{_+_, _<_};
+ghost use Rattle.definitions.specs.Reader.{compiledUnit};
+ghost use Rattle.unit.specs.Views.{UnitRead};
+ghost use Rattle.code_views.specs.Answers.{InstructionAt, BlockAt};
+
+// The first and the last instruction.
+pub struct Block {
+    pub first: u16,
+    pub last: u16,
+}
+
+// Instruction i, one of the code's.
+pub fn instruction_at(s: &[u8], index: &[u16], view: View, i: usize) -> Instruction
+    requires { ⌜ UnitRead (now s) (now index) view ⌝ }
+    requires { ⌜ i < view .code .count ⌝ }
+    ensures { λ r. ⌜ ((p : UnitRead (now (s .entry)) (now (index .entry)) view) → InstructionAt (compiledUnit (p .decoded)) i r) ⌝ }
+{
+    record_views::instruction_at(s, unit_tables::place(index, view.code, i))
+}
+
+// Block i, one of those listed.
+pub fn block_at(s: &[u8], index: &[u16], view: View, i: usize) -> Block
+    requires { ⌜ UnitRead (now s) (now index) view ⌝ }
+    requires { ⌜ i < view .blocks .count ⌝ }
+    ensures { λ r. ⌜ ((p : UnitRead (now (s .entry)) (now (index .entry)) view) → BlockAt (compiledUnit (p .decoded)) view i r) ⌝ }
+{
+    let p = unit_tables::place(index, view.blocks, i);
+    Block {
+        first: record_views::u16_at(s, p + 1),
+        last: record_views::u16_at(s, p + 3),
+    }
+}

@@ -1,0 +1,21 @@
+// The tables of a unit that was read: where record i of one stands, by the index. Every look-up in a unit goes through it.
+use unit::Table;
+ghost use mathlib.Core.Path.{_≡_};
+ghost use Prim.Native.Nat.{_+_, _<_};
+ghost use lib.ListN.{getD};
+ghost use Rattle.unit_tables.specs.Tables.{Fits};
+
+pub fn widest(x: u16) -> usize
+    ensures { λ r. ⌜ (r ≡ x) × (r < 65536) ⌝ }
+{
+    x as usize
+}
+
+// Where record i of a table stands.
+pub fn place(index: &[u16], table: Table, i: usize) -> usize
+    requires { ⌜ Fits (now index) table ⌝ }
+    requires { ⌜ i < table .count ⌝ }
+    ensures { λ r. ⌜ (r ≡ getD (now (index .entry)) (table .base + i) 0) × (r < 65536) ⌝ }
+{
+    widest(index[widest(table.base) + i])
+}

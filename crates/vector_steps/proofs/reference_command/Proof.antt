@@ -1,7 +1,0 @@
--- The first byte of each kind of reference.
-use Rattle.vector_steps.specs.Elements.{mutable-command, immutable-command}
-use Rattle.vector_steps.proofs.reference_command.Statement.{statement}
-use Rattle.vector_steps.proofs.reference_command.Tie as tie
-
-pub reference-command-spec : {M : Type 1} → statement M
-reference-command-spec = tie.close (tie.spec (λ c. mutable-command (c .if1 .taken)) (λ c. immutable-command (c .if1 .left)))
