@@ -1,6 +1,6 @@
 -- What it is that an instruction's step is done, by its opcode and operands and by its place in the code; and the laws by which an arm of the
 -- decision over the opcode knows its step.
-use mathlib.Core.Path.{_≡_, refl, subst, sym, _∙_}
+use mathlib.Core.Path.{_≡_, refl, subst, sym}
 use mathlib.Core.Bool.{Bool, true, false}
 use mathlib.Core.List.{List, [], _∷_}
 use Prim.Native.Nat.{ℕ, zero, suc, _+_, _-_, _≤_, _<_}

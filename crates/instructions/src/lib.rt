@@ -30,32 +30,6 @@ fn integer_type(k: u8) -> u8
     2 + k
 }
 
-// CopyLoc, MoveLoc, StLoc.
-fn local_instr(
-    area: &mut [u8],
-    weight: usize,
-    s: &[u8],
-    index: &[u16],
-    view: View,
-    parameters: &[u16],
-    locals: &[u16],
-    instruction: Instruction,
-) -> Stepped
-    requires { ⌜ Stacked (now area) weight ⌝ }
-    requires { ⌜ UnitRead (now s) (now index) view ⌝ }
-    requires { ⌜ LocalPlaces (now s) (now index) view (now parameters) (now locals) ⌝ }
-    requires { ⌜ Between 14 16 instruction ⌝ }
-    ensures { λ r. ⌜ ((p : UnitRead (now (s .entry)) (now (index .entry)) view) → Does (compiledUnit (p .decoded)) instruction (now (area .entry)) weight (now (area .exit)) r) ⌝ }
-{
-    let opcode = instruction.opcode;
-    let idx = LocalIndex(instruction.local);
-    match opcode {
-        14 => local_steps::copy_loc(area, weight, s, index, view, parameters, locals, idx),
-        15 => local_steps::move_loc(area, weight, s, index, view, parameters, locals, idx),
-        _ => local_steps::st_loc(area, weight, s, index, view, parameters, locals, idx),
-    }
-}
-
 // MutBorrowLoc, ImmBorrowLoc.
 fn borrow_loc_instr(
     area: &mut [u8],
@@ -302,6 +276,7 @@ pub fn verify_instr(
 {
     let it = code_views::instruction_at(s, index, view, i);
     let opcode = it.opcode;
+    let local = LocalIndex(it.local);
     match opcode {
         0 => drop_steps::pop_step(area, weight, s, index, view),
         1 => list_steps::ret_step(area, weight, s, index, view),
@@ -311,7 +286,9 @@ pub fn verify_instr(
         8..=10 => operand_steps::cast(area, weight, integer_type(opcode - 8)),
         11 => { local_steps::ld_const(area, weight, s, index, view, ConstantPoolIndex(it.operand)) }
         12..=13 => type_pushes::push_leaf(area, weight, 1),
-        14..=16 => local_instr(area, weight, s, index, view, parameters, locals, it),
+        14 => local_steps::copy_loc(area, weight, s, index, view, parameters, locals, local),
+        15 => local_steps::move_loc(area, weight, s, index, view, parameters, locals, local),
+        16 => local_steps::st_loc(area, weight, s, index, view, parameters, locals, local),
         17..=18 => call_instr(area, weight, s, index, view, it),
         19..=22 => struct_instr(area, weight, s, index, view, it),
         23 => reference_steps::read_ref(area, weight, s, index, view),

@@ -12,7 +12,7 @@ use Rattle.definitions.specs.Result.{Result, ok, err, _>>?_}
 use Rattle.definitions.specs.SignatureToken.{SignatureToken, Signature, _∷ᵗ_, arguments, encodeAll, same}
 use Rattle.definitions.specs.Substitution.{instantiate, instantiateAll, instantiateEach}
 use Rattle.definitions.specs.Machine.{Step, _>>=_, pop, push, look, check, popOne, popEach, pushOne, pushEach}
-use Rattle.definitions.specs.Places.{TypesAt, Standing}
+use Rattle.definitions.specs.Places.{Standing}
 use Rattle.theorems.specs.Bytes.{listOf-arguments}
 use Rattle.theorems.specs.Lookups.{used}
 use Rattle.type_places.specs.Places.{PlacesAt}

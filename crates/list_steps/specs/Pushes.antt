@@ -8,7 +8,7 @@ use lib.Seq.{length-take-le}
 use borrow.Rule.Slice.PartMut.{putMid}
 use Rattle.status.specs.declared.StatusCode.{StatusCode}
 use Rattle.status.specs.declared.StatusCode.the-variants.{«OUT_OF_TABLE», «NO_ROOM»}
-use Rattle.definitions.specs.Result.{Result, ok, err, _>>?_}
+use Rattle.definitions.specs.Result.{Result, ok, err}
 use Rattle.definitions.specs.SignatureToken.{SignatureToken, Signature, arguments, encode, encodeAll, le16}
 use Rattle.definitions.specs.Substitution.{instantiate}
 use Rattle.definitions.specs.Machine.{pushEach, run}

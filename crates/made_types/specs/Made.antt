@@ -1,9 +1,9 @@
 -- What the comparison with a struct that is not written, and the pushes of types that are made, promise.
-use mathlib.Core.List.{List, _∷_}
+use mathlib.Core.List.{List}
 use mathlib.Core.Bool.{Bool}
 use mathlib.Core.Path.{_≡_}
 use Prim.Native.Nat.{ℕ}
-use Rattle.definitions.specs.SignatureToken.{SignatureToken, encode, same}
+use Rattle.definitions.specs.SignatureToken.{same}
 use Rattle.definitions.specs.Substitution.{materializeType, instantiate, referenceTo}
 use Rattle.definitions.specs.Machine.{_>>=_, push, look}
 use Rattle.definitions.specs.Places.{TypeAt}

@@ -1,6 +1,6 @@
 -- Effects that are looked up: one look-up after another, what each look-up of the unit tells, a call's effect by the counts of its two
 -- signatures, and the decision over the opcode.
-use mathlib.Core.Path.{_≡_, refl, sym, ap, _∙_}
+use mathlib.Core.Path.{_≡_, refl, sym, ap}
 use mathlib.Core.Bool.{false}
 use mathlib.Core.List.{List, [], _∷_}
 use Prim.Native.Nat.{ℕ}
@@ -9,25 +9,20 @@ use borrow.Author.Tests.{ne-eqb}
 use Rattle.status.specs.declared.StatusCode.{StatusCode}
 use Rattle.definitions.specs.Result.{Result, ok, err, _>>?_}
 use Rattle.definitions.specs.SignatureToken.{Signature}
-use Rattle.definitions.specs.CompiledUnit.{CompiledUnit, FunctionHandle, FunctionInstantiation, StructDefinition, StructDefInstantiation, StructFieldInformation, Native, Declared, signatureAt}
+use Rattle.definitions.specs.CompiledUnit.{CompiledUnit, FunctionHandle, StructDefinition, StructFieldInformation, Native, Declared, signatureAt}
 use Rattle.definitions.specs.Commands.{oneOf}
 use Rattle.definitions.specs.StackUsage.{_⇒_, fieldCount, callEffect, instructionEffect}
 use Rattle.record_views.specs.declared.Instruction.{Instruction}
 use Rattle.record_views.specs.declared.Fields.{Fields}
 use Rattle.unit_views.specs.declared.SignatureResult.{SignatureResult}
-use Rattle.handle_views.specs.declared.FunctionHandleResult.{FunctionHandleResult}
-use Rattle.handle_views.specs.declared.FunctionInstantiationResult.{FunctionInstantiationResult}
 use Rattle.unit_views.specs.declared.StructDefResult.{StructDefResult}
-use Rattle.handle_views.specs.declared.StructInstantiationResult.{StructInstantiationResult}
 use Rattle.record_views.specs.Records.{FieldsAre, instructionOf}
 use Rattle.code_views.specs.Answers.{InstructionAt}
 use Rattle.unit_views.specs.Answers.{SignatureIs, signatureAnswer, StructDefIs, structDefAnswer}
-use Rattle.handle_views.specs.Answers.{functionHandleAnswer, functionInstantiationAnswer, structInstantiationAnswer}
 use Rattle.stack_usage_verifier.specs.declared.Effect.{Effect}
 use Rattle.stack_usage_verifier.specs.declared.EffectResult.{EffectResult}
 use Rattle.stack_usage_verifier.specs.Effects.{looksUp, FixedEffect}
 use Rattle.stack_usage_verifier.specs.Answers.{effectResult, InstructionEffectAt}
-use Rattle.handle_views.specs.Answers.{handleOf}
 
 module _ {A B : Type 0} (f : A → Result B) {x : Result A} where
   -- a refusal stays

@@ -2,7 +2,7 @@
 use mathlib.Core.Bool.{Bool, true, false}
 use mathlib.Core.List.{List, []}
 use mathlib.Core.Path.{_≡_, refl}
-use Prim.Native.Nat.{ℕ, _≤_}
+use Prim.Native.Nat.{ℕ}
 use native.Mathlib.Omega.{arith}
 use lib.Dec.{leb}
 use Rattle.status.specs.declared.StatusCode.{StatusCode}
@@ -10,7 +10,7 @@ use Rattle.status.specs.declared.StatusCode.the-variants.{AREA}
 use Rattle.status.specs.declared.Position.the-variants.{Byte}
 use Rattle.status.specs.declared.Verdict.{Verdict}
 use Rattle.status.specs.declared.Verdict.the-variants.{Accepted, Refused}
-use Rattle.status.specs.Verdict.{statusNumber, numberOf}
+use Rattle.status.specs.Verdict.{numberOf}
 use Rattle.definitions.specs.CompiledUnit.{CompiledUnit, Block}
 use Rattle.definitions.specs.Reading.{Read, read, stop}
 use Rattle.definitions.specs.Reader.{Decoded, readUnit, compiledUnit}

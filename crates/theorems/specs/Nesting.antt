@@ -10,14 +10,14 @@ use lib.ListN.{length}
 use Rattle.status.specs.declared.StatusCode.{StatusCode}
 use Rattle.definitions.specs.Result.{Result, ok, at}
 use Rattle.definitions.specs.SignatureToken.{SignatureToken, SignatureTokens, Signature, arguments, Bool′, U8, U64, U128, Address, Signer, Vector, Struct, StructInstantiation, Reference, MutableReference, TypeParameter, []ᵗ, _∷ᵗ_, depth, depthAll, Outer, reference, mutableReference, vector, integer, other, outer}
-use Rattle.definitions.specs.CompiledUnit.{CompiledUnit, Head, Module, Script, StructFieldInformation, Native, Declared, StructDefinition, Block, inModule, signatureAt, structDefAt, constantAt, localAt, elementTypeAt}
+use Rattle.definitions.specs.CompiledUnit.{CompiledUnit, Head, Module, Script, StructDefinition, Block, inModule, signatureAt, structDefAt, constantAt, localAt, elementTypeAt}
 use Rattle.definitions.specs.Substitution.{materializeType, instantiate, instantiateAll, innerOfOuter, inner, mutableInnerOfOuter, mutableInner, referenceTo}
 use Rattle.definitions.specs.Machine.{Stack}
 use Rattle.definitions.specs.TypeSafety.{structType}
 use Rattle.definitions.specs.Verify.{stands, stopped, walk}
 use Rattle.theorems.specs.Lookups.{ok-same, never-ok, used, at-member}
 use Rattle.theorems.specs.All.{All, none, more, all-member}
-use Rattle.theorems.specs.Bounded.{NestsWithin, FieldsNestWithin, DefinitionNestsWithin, Bounded}
+use Rattle.theorems.specs.Bounded.{NestsWithin, DefinitionNestsWithin, Bounded}
 use Rattle.definitions.specs.Reading.{read}
 use Rattle.definitions.specs.Reader.{Decoded, readUnit, compiledUnit}
 use Rattle.theorems.specs.ReadUnit.{readUnit-bounded}

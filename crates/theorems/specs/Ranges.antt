@@ -1,6 +1,6 @@
 -- A range of numbers as two inequalities, and back.
 use mathlib.Core.Bool.{Bool, true, false, _&&_, _||_}
-use mathlib.Core.List.{List, [], _∷_}
+use mathlib.Core.List.{[], _∷_}
 use Prim.Native.Nat.{ℕ, _≤_}
 use lib.Dec.{T, leb, leb→le, le→leb}
 use Rattle.theorems.specs.Numbers.{_to_, among}

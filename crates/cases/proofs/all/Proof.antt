@@ -1,6 +1,5 @@
 -- `all`: the walk ends, since each turn leaves one byte fewer, and reads only bytes that are there.
 use Prim.Native.Nat.{_-_, _≤_}
-use native.Mathlib.Omega.{arith}
 use lib.ListN.{length}
 use borrow.Author.Needs.{needs}
 use Rattle.cases.proofs.all.Statement.{statement}

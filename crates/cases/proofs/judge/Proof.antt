@@ -1,6 +1,5 @@
 -- `judge`: the part of the area that is lent has as many bytes as were asked for, since the area has no fewer.
 use mathlib.Core.Path.{sym}
-use native.Mathlib.Omega.{arith}
 use lib.Seq.{length-take-le}
 use borrow.Author.Needs.{needs}
 use Rattle.cases.proofs.judge.Statement.{statement}

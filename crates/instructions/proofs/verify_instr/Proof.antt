@@ -1,5 +1,5 @@
 -- An opcode with an arm of its own does that step; one in a range does the range's, since it is none of those with arms of their own.
-use mathlib.Core.Path.{_≡_, refl}
+use mathlib.Core.Path.{refl}
 use mathlib.Core.List.{List, [], _∷_}
 use Prim.Native.Nat.{ℕ}
 use native.Mathlib.Omega.{arith}
@@ -15,7 +15,7 @@ use Rattle.instructions.proofs.verify_instr.Tie as tie
 
 -- the opcodes with arms of their own, the last first
 abbrev keys : List ℕ
-keys = 54 ∷ 53 ∷ 46 ∷ 25 ∷ 24 ∷ 23 ∷ 11 ∷ 4 ∷ 1 ∷ 0 ∷ []
+keys = 54 ∷ 53 ∷ 46 ∷ 25 ∷ 24 ∷ 23 ∷ 16 ∷ 15 ∷ 14 ∷ 11 ∷ 4 ∷ 1 ∷ 0 ∷ []
 
 pub verify-instr-spec : {M : Type 1} → statement M
 unfolding instructionOf verifyInstr Each encode
@@ -32,17 +32,19 @@ verify-instr-spec =
     (λ c κs. search needs)
     (λ c κs. search needs)
     (λ c κs. search needs)
+    (λ c κs. search needs)
+    (λ c κs. search needs)
+    (λ c κs. search needs)
     (λ c. between keys 5 7 4 4 {it = c .before .before .before .before .before .instruction-at .result} (tt, (refl, (refl, (refl, tt)))) (c .before .before .before .before .match .rest) (omega arith) (omega arith) .from)
     (λ c κs. third _ (between keys 5 7 4 4 {it = c .before .before .before .before .before .instruction-at .result} (tt, (refl, (refl, (refl, tt)))) (c .before .before .before .before .match .rest) (omega arith) (omega arith)))
     (λ c κs. search needs)
     (λ c κs. third _ (between keys 8 10 8 3 {it = c .before .before .before .before .before .before .instruction-at .result} (refl, (refl, (refl, tt))) (c .before .before .before .before .before .match .rest) (omega arith) (omega arith)))
     (λ c κs. search needs)
     (λ c κs. search needs)
-    (λ c κs. (c .before .before .before .before .before .before .before .before .before .before .before .before .before .before .pre .0, (c .before .before .before .before .before .before .before .before .before .before .before .before .before .before .pre .1 .0, (c .before .before .before .before .before .before .before .before .before .before .before .before .before .before .pre .1 .1 .0, (between keys 14 16 14 3 (refl, (refl, (refl, tt))) (c .before .before .before .before .before .before .before .match .rest) (omega arith) (omega arith))))))
+    (λ c κs. (c .before .before .before .before .before .before .before .before .before .before .before .before .before .before .pre .0, (c .before .before .before .before .before .before .before .before .before .before .before .before .before .before .pre .1 .0, between keys 17 18 14 5 (tt, (tt, (tt, (refl, (refl, tt))))) (c .before .before .before .before .before .before .before .match .rest) (omega arith) (omega arith))))
     (λ c κs. (c .before .before .before .before .before .before .before .before .before .before .before .before .before .before .before .pre .0, (c .before .before .before .before .before .before .before .before .before .before .before .before .before .before .before .pre .1 .0, record { from = omega arith; to = omega arith })))
+    (λ c κs. (c .before .before .before .before .before .before .before .before .before .before .before .before .before .before .before .before .pre .0, (c .before .before .before .before .before .before .before .before .before .before .before .before .before .before .before .before .pre .1 .0, (c .before .before .before .before .before .before .before .before .before .before .before .before .before .before .before .before .pre .1 .1 .0, between keys 26 27 23 5 (tt, (tt, (tt, (refl, (refl, tt))))) (c .before .before .before .before .before .before .before .before .before .match .rest) (omega arith) (omega arith)))))
     (λ c κs. (c .before .before .before .before .before .before .before .before .before .before .before .before .before .before .before .before .pre .0, (c .before .before .before .before .before .before .before .before .before .before .before .before .before .before .before .before .pre .1 .0, record { from = omega arith; to = omega arith })))
-    (λ c κs. (c .before .before .before .before .before .before .before .before .before .before .before .before .before .before .before .before .before .pre .0, (c .before .before .before .before .before .before .before .before .before .before .before .before .before .before .before .before .before .pre .1 .0, (c .before .before .before .before .before .before .before .before .before .before .before .before .before .before .before .before .before .pre .1 .1 .0, (between keys 26 27 23 5 (tt, (tt, (tt, (refl, (refl, tt))))) (c .before .before .before .before .before .before .before .before .before .before .match .rest) (omega arith) (omega arith))))))
-    (λ c κs. (c .before .before .before .before .before .before .before .before .before .before .before .before .before .before .before .before .before .pre .0, (c .before .before .before .before .before .before .before .before .before .before .before .before .before .before .before .before .before .pre .1 .0, record { from = omega arith; to = omega arith })))
     (λ c κs. (c .before .before .before .before .before .before .before .before .before .before .pre .0, (c .before .before .before .before .before .before .before .before .before .before .pre .1 .0, record { from = omega arith; to = omega arith })))
     (λ c κs. search needs)
     (λ c κs. search needs)
@@ -58,6 +60,12 @@ verify-instr-spec =
     (λ c p. key-at (c .before .instruction-at .ensures p) 4 (omega arith) (done-here))
     (λ c. search needs)
     (λ c p. key-at (c .before .before .before .before .before .instruction-at .ensures p) 11 (omega arith) (c .before .before .ld-const .ensures p))
+    (λ c. search needs)
+    (λ c p. key-at (c .before .before .before .before .before .instruction-at .ensures p) 14 (omega arith) (c .before .before .copy-loc .ensures p))
+    (λ c. search needs)
+    (λ c p. key-at (c .before .before .before .before .before .instruction-at .ensures p) 15 (omega arith) (c .before .before .move-loc .ensures p))
+    (λ c. search needs)
+    (λ c p. key-at (c .before .before .before .instruction-at .ensures p) 16 (omega arith) (c .st-loc .ensures p))
     (λ c. search needs)
     (λ c p. key-at (c .before .before .before .before .before .instruction-at .ensures p) 23 (omega arith) (c .before .before .read-ref .ensures p))
     (λ c. search needs)
@@ -78,15 +86,13 @@ verify-instr-spec =
     (λ c. search needs)
     (λ c p. let h = c .before .before .push-leaf2 .ensures .steps Bool′ refl in arm-at (c .before .before .before .before .before .before .before .before .before .before .instruction-at .ensures p) keys 11 3 (tt, (h, (h, tt))) (c .before .before .before .before .before .before .before .before .before .match .rest) (omega arith) (omega arith))
     (λ c. search needs)
-    (λ c p. does-at (c .before .before .before .before .before .before .before .before .before .before .before .instruction-at .ensures p) (c .before .before .local-instr .ensures p .steps))
+    (λ c p. does-at (c .before .before .before .before .before .before .before .before .before .before .before .instruction-at .ensures p) (c .before .before .call-instr .ensures p .steps))
     (λ c. search needs)
-    (λ c p. does-at (c .before .before .before .before .before .before .before .before .before .before .before .before .instruction-at .ensures p) (c .before .before .call-instr .ensures p .steps))
+    (λ c p. does-at (c .before .before .before .before .before .before .before .before .before .before .before .before .instruction-at .ensures p) (c .before .before .struct-instr .ensures p .steps))
     (λ c. search needs)
-    (λ c p. does-at (c .before .before .before .before .before .before .before .before .before .before .before .before .before .instruction-at .ensures p) (c .before .before .struct-instr .ensures p .steps))
+    (λ c p. does-at (c .before .before .before .before .before .before .before .before .before .before .before .before .before .instruction-at .ensures p) (c .before .before .borrow-loc-instr .ensures p .steps))
     (λ c. search needs)
-    (λ c p. does-at (c .before .before .before .before .before .before .before .before .before .before .before .before .before .before .instruction-at .ensures p) (c .before .before .borrow-loc-instr .ensures p .steps))
-    (λ c. search needs)
-    (λ c p. does-at (c .before .before .before .before .before .before .before .before .before .before .before .before .before .before .instruction-at .ensures p) (c .before .before .field-instr .ensures p .steps))
+    (λ c p. does-at (c .before .before .before .before .before .before .before .before .before .before .before .before .before .instruction-at .ensures p) (c .before .before .field-instr .ensures p .steps))
     (λ c. search needs)
     (λ c p. does-at (c .before .before .before .before .before .before .before .instruction-at .ensures p) (c .before .before .global-instr .ensures p .steps))
     (λ c. search needs)

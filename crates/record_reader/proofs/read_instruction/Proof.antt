@@ -2,7 +2,6 @@
 use mathlib.Core.Path.{ap, _∙_}
 use Prim.Native.Nat.{ℕ, _+_, _-_}
 use native.Mathlib.Omega.{arith}
-use lib.ListN.{getD}
 use Rattle.record_reader.specs.ReadTo.{readTo}
 use Rattle.definitions.specs.Reading.{skip}
 use Rattle.record_reader.specs.Bodies.{operandWidth}

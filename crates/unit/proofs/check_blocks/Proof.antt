@@ -2,7 +2,6 @@
 use mathlib.Core.Path.{refl}
 use Prim.Native.Nat.{_-_}
 use native.Mathlib.Omega.{arith}
-use borrow.Author.Needs.{needs}
 use Rattle.unit.proofs.Blocks.{Tested, block-here, tested-falls, tested-past, tested-more, tested-all}
 use Rattle.unit.proofs.check_blocks.Statement.{statement}
 use Rattle.unit.proofs.check_blocks.Tie as tie
