@@ -3,7 +3,7 @@
 use status::StatusCode;
 ghost use mathlib.Core.Path.{_≡_};
 ghost use mathlib.Core.List.{[], _∷_, map};
-ghost use Rattle.definitions.specs.AbilitySet.{bit, EMPTY, PRIMITIVES, REFERENCES, SIGNER, VECTOR, hasAbility, hasCopy, hasDrop, hasStore, hasKey, union, intersect, requiredBy, withRequiredBy, requiredByAny, meetArgument, polymorphicAbilities};
+ghost use Rattle.definitions.specs.AbilitySet.{bit, EMPTY, PRIMITIVES, REFERENCES, SIGNER, VECTOR, hasAbility, union, intersect, requiredBy, withRequiredBy, requiredByAny, meetArgument, polymorphicAbilities};
 ghost use Rattle.file_format.specs.AbilitySet.{abilityOf, setOf, fromU8, isPhantomByte, abilitiesAnswer};
 
 // What may be done with the values of a type.
@@ -28,7 +28,7 @@ impl Ability {
     }
 
     // The abilities that ask this one of a type argument: key asks store, each other one itself.
-    pub fn required_by(self) -> AbilitySet
+    fn required_by(self) -> AbilitySet
         ensures { λ r. ⌜ r ≡ setOf (requiredBy (abilityOf self)) ⌝ }
     {
         match self {
@@ -90,37 +90,13 @@ impl AbilitySet {
         a & self.0 == a
     }
 
-    pub fn has_copy(self) -> bool
-        ensures { λ r. ⌜ r ≡ hasCopy (self .0) ⌝ }
-    {
-        self.has_ability(Ability::Copy)
-    }
-
-    pub fn has_drop(self) -> bool
-        ensures { λ r. ⌜ r ≡ hasDrop (self .0) ⌝ }
-    {
-        self.has_ability(Ability::Drop)
-    }
-
-    pub fn has_store(self) -> bool
-        ensures { λ r. ⌜ r ≡ hasStore (self .0) ⌝ }
-    {
-        self.has_ability(Ability::Store)
-    }
-
-    pub fn has_key(self) -> bool
-        ensures { λ r. ⌜ r ≡ hasKey (self .0) ⌝ }
-    {
-        self.has_ability(Ability::Key)
-    }
-
-    pub fn union(self, other: AbilitySet) -> AbilitySet
+    fn union(self, other: AbilitySet) -> AbilitySet
         ensures { λ r. ⌜ r ≡ setOf (union (self .0) (other .0)) ⌝ }
     {
         AbilitySet(self.0 | other.0)
     }
 
-    pub fn intersect(self, other: AbilitySet) -> AbilitySet
+    fn intersect(self, other: AbilitySet) -> AbilitySet
         ensures { λ r. ⌜ r ≡ setOf (intersect (self .0) (other .0)) ⌝ }
     {
         AbilitySet(self.0 & other.0)
@@ -138,7 +114,7 @@ impl AbilitySet {
     }
 
     // The union of `required_by` over the set: what a type argument with these abilities leaves to the type.
-    pub fn required_by_any(self) -> AbilitySet
+    fn required_by_any(self) -> AbilitySet
         ensures { λ r. ⌜ r ≡ setOf (requiredByAny (self .0)) ⌝ }
     {
         let copy = self.with_required_by(AbilitySet::EMPTY, Ability::Copy);
