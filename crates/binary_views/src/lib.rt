@@ -130,7 +130,9 @@ pub fn abilities(
         },
         Token::Struct(h) => struct_abilities(unit, handles, h),
         Token::StructInstantiation(h, n, first) => {
-            instantiation_abilities(h, ty, first, n, unit, handles, constraints)
+            // bound first: else each arm writes the answer's two bytes to memory, where they are copied before they have arrived
+            let found = instantiation_abilities(h, ty, first, n, unit, handles, constraints);
+            found
         }
         Token::TypeParameter(i) => type_parameter_abilities(constraints, i),
     }

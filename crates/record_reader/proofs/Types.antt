@@ -1,5 +1,6 @@
 -- A type by the shape of its command: one law for each way that reading it goes.
 use mathlib.Core.Path.{_≡_, refl, sym, ap, _∙_}
+use mathlib.Core.Bool.{true, false}
 use mathlib.Core.List.{List, [], _∷_}
 use Prim.Native.Nat.{ℕ, zero, suc, _+_, _-_, _≤_, _<_}
 use native.Mathlib.Omega.{arith}
@@ -16,7 +17,7 @@ use Rattle.record_reader.specs.declared.TypeShape.{TypeShape}
 use Rattle.record_reader.specs.declared.TypeShape.the-variants.{Leaf, Over, Index, Instantiation, Unknown}
 use Rattle.record_reader.specs.ReadTo.{readTo}
 use Rattle.record_reader.specs.Alike.{byte-next, byte-short, alike-map, alike-then, alike-after, map-alike, u16-takes}
-use Rattle.record_reader.specs.Bodies.{shapeOf, typeShape, counted}
+use Rattle.record_reader.specs.Bodies.{shapeOf, typeShape, counted, LeafPassed}
 use Rattle.record_reader.specs.BodyLaws.{same-types}
 
 -- where the rest of a type ends, by its shape; the command stood at p
@@ -58,6 +59,14 @@ module _ (head : Head) (s : List ℕ) (at : ℕ) where
         let z : suc levels - 1 ≡ levels = omega arith in
         rw (z, e, byte-next s at within, same-types head (getD s at 0))
         (sym (rest-shaped (typeWithin (commandsOf head) levels) at (getD typeCommands (getD s at 0) TypeCommand.unknown) s (at + 1)))
+
+-- ── a leaf that is passed by one byte ──
+
+pub not-passed : {s : List ℕ} {at levels : ℕ} → LeafPassed s at levels false
+not-passed = record { within = λ e. let z : _≡_ {A = ℕ} 0 1 = cc in absurd (omega arith); passes = λ e. let z : _≡_ {A = ℕ} 0 1 = cc in absurd (omega arith) }
+
+pub leaf-passed : {s : List ℕ} {at levels : ℕ} → at < length s → (levels ≡ 0 → ⊥) → Leaf ≡ typeShape (getD s at 0) → LeafPassed s at levels true
+leaf-passed {s} {at} {levels} h f e = record { within = λ _. h; passes = λ _ head. type-shaped head s at h levels f e }
 
 -- ── the shape of a command ──
 

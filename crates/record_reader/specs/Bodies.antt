@@ -2,13 +2,15 @@
 use mathlib.Core.Path.{_≡_}
 use mathlib.Core.Bool.{Bool, true, false}
 use mathlib.Core.List.{List}
-use Prim.Native.Nat.{ℕ, _<_}
+use Prim.Native.Nat.{ℕ, _+_, _<_}
 use lib.Dec.{eqb}
 use lib.ListN.{length, getD}
 use Rattle.definitions.specs.Reading.{Reader, _>>=_, byte, many}
-use Rattle.definitions.specs.Commands.{TypeCommand, leaf, over, instantiation, typeCommands, InstructionForm, plain, unkept, local, instructionForms, Commands}
-use Rattle.definitions.specs.Reader.{type, types, structHandle, pairOf, structDefinition}
-use Rattle.record_reader.specs.ReadTo.{forget}
+use Rattle.definitions.specs.Commands.{TypeCommand, leaf, over, instantiation, typeCommands, InstructionForm, plain, unkept, local, instructionForms, Commands, commandsOf}
+use Rattle.definitions.specs.CompiledUnit.{Head}
+use Rattle.definitions.specs.Reader.{type, typeWithin, types, structHandle, pairOf, structDefinition}
+use Rattle.record_reader.specs.ReadTo.{forget, readTo}
+use Rattle.record_reader.specs.declared.ReadTo.the-variants.{Next}
 use Rattle.record_reader.specs.declared.TypeShape.{TypeShape}
 use Rattle.record_reader.specs.declared.TypeShape.the-variants.{Leaf, Over, Index, Instantiation, Unknown}
 
@@ -44,6 +46,11 @@ shapeOf TypeCommand.unknown = Unknown
 
 abbrev pub typeShape : ℕ → TypeShape
 typeShape c = shapeOf (getD typeCommands c TypeCommand.unknown)
+
+-- where r is true, reading a type at `at` goes on after one byte
+pub record LeafPassed (s : List ℕ) (at levels : ℕ) (r : Bool) : Type 0 where
+  pub within : r ≡ true → at < length s
+  pub passes : r ≡ true → (head : Head) → Next (at + 1) ≡ readTo (typeWithin (commandsOf head) levels s at)
 
 -- how many bytes stand after an opcode
 unfoldable pub widthOf : InstructionForm → ℕ

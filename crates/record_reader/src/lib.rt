@@ -12,7 +12,7 @@ ghost use Rattle.definitions.specs.Commands.{commandsOf};
 ghost use Rattle.definitions.specs.Reading.{skip};
 ghost use Rattle.definitions.specs.Reader.{typeWithin, types, byteUpTo, structHandle, structDefinition, signatureOf, functionView, instruction};
 ghost use Rattle.record_reader.specs.ReadTo.{readTo};
-ghost use Rattle.record_reader.specs.Bodies.{counted, pair, bodyOf, typeShape, operandWidth, WidthTable};
+ghost use Rattle.record_reader.specs.Bodies.{counted, pair, bodyOf, typeShape, operandWidth, WidthTable, LeafPassed};
 
 // Where reading goes on, or why it ends and the byte that this is about.
 pub enum ReadTo {
@@ -50,24 +50,68 @@ fn skip_bytes(s: &[u8], at: usize, count: usize) -> ReadTo
 
 // ── types ──
 
-// What a byte opens as a type's command.
+// What a byte opens as a type's command. One comparison after the other and no match, which would become a jump through a table.
 fn type_shape(command: u8) -> TypeShape
     ensures { λ r. ⌜ r ≡ typeShape command ⌝ }
 {
-    match command {
-        0x01..=0x06 => TypeShape::Leaf,
-        0x07 => TypeShape::Over,
-        0x08 => TypeShape::Index,
-        0x09 => TypeShape::Instantiation,
-        0x0A => TypeShape::Over,
-        0x0B => TypeShape::Over,
-        0x0C => TypeShape::Index,
-        _ => TypeShape::Unknown,
+    if command < 0x01 {
+        return TypeShape::Unknown;
+    }
+    if command < 0x07 {
+        return TypeShape::Leaf;
+    }
+    if command < 0x08 {
+        return TypeShape::Over;
+    }
+    if command < 0x09 {
+        return TypeShape::Index;
+    }
+    if command < 0x0A {
+        return TypeShape::Instantiation;
+    }
+    if command < 0x0B {
+        return TypeShape::Over;
+    }
+    if command < 0x0C {
+        return TypeShape::Over;
+    }
+    if command < 0x0D {
+        return TypeShape::Index;
+    }
+    TypeShape::Unknown
+}
+
+// Whether a leaf stands at `at`, where one is allowed.
+fn is_leaf_at(s: &[u8], at: usize, levels: u8) -> bool
+    ensures { λ r. ⌜ LeafPassed (now (s .entry)) at levels r ⌝ }
+{
+    if levels == 0 {
+        return false;
+    }
+    if s.len() <= at {
+        return false;
+    }
+    match type_shape(s[at]) {
+        TypeShape::Leaf => true,
+        TypeShape::Over => false,
+        TypeShape::Index => false,
+        TypeShape::Instantiation => false,
+        TypeShape::Unknown => false,
     }
 }
 
-// A type of at most so many levels. Vectors and references stand in a row before what they are of: one turn of the loop for each.
+// A type of at most so many levels. Most types are leaves, which are passed here; all others are left to a function that calls this one again.
 fn read_type(s: &[u8], at: usize, levels: u8) -> ReadTo
+    ensures { λ r. ⌜ ((head : Head) → r ≡ readTo (typeWithin (commandsOf head) levels (now (s .entry)) at)) ⌝ }
+{
+    if is_leaf_at(s, at, levels) {
+        return ReadTo::Next(at + 1);
+    }
+    read_any_type(s, at, levels)
+}
+
+// The same, whatever the type is. Vectors and references stand in a row before what they are of: one turn of the loop for each.
+fn read_any_type(s: &[u8], at: usize, levels: u8) -> ReadTo
     ensures { λ r. ⌜ ((head : Head) → r ≡ readTo (typeWithin (commandsOf head) levels (now (s .entry)) at)) ⌝ }
 {
     let mut p = at;

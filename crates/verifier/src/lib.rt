@@ -62,14 +62,22 @@ fn judge_in(s: &[u8], area: &mut [u8], index: &mut [u16], passes: Passes) -> Ver
     }
 }
 
-// Reads a unit and judges it. A short unit takes a short index, since an index is zeroed before it is filled.
+// Reads a unit and judges it. An index is zeroed before it is filled, so a unit takes the shortest of four that has an entry for each byte.
 fn judge(s: &[u8], area: &mut [u8], passes: Passes) -> Verdict
     requires { ⌜ length (now area) ≤ 65535 ⌝ }
     ensures { λ r. ⌜ r ≡ afterReading (readUnit (now (s .entry))) (judgeOf passes (length (now (area .entry)))) ⌝ }
 {
+    if s.len() <= 256 {
+        let mut tiny = [0u16; 256];
+        return judge_in(s, area, &mut tiny, passes);
+    }
     if s.len() <= 1024 {
         let mut short = [0u16; 1024];
         return judge_in(s, area, &mut short, passes);
+    }
+    if s.len() <= 4096 {
+        let mut medium = [0u16; 4096];
+        return judge_in(s, area, &mut medium, passes);
     }
     let mut index = [0u16; 32768];
     judge_in(s, area, &mut index, passes)

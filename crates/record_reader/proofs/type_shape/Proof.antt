@@ -9,12 +9,12 @@ pub type-shape-spec : {M : Type 1} → statement M
 type-shape-spec =
     tie.close
     (tie.spec
-    (λ c. rw (c .match .keys1))
-    (λ c. rw (c .match .keys2))
-    (λ c. rw (c .match .keys3))
-    (λ c. rw (c .match .keys4))
-    (λ c. rw (c .match .keys5))
-    (λ c. rw (c .match .keys6))
-    (λ c. leaves (c .before .before .before .args .command) (omega arith) (omega arith))
-    (λ c. let z : c .before .before .args .command ≡ 0 = omega arith in rw z)
-    (λ c. past-commands (c .before .before .before .args .command) (omega arith)))
+    (λ c. let z : c .before .args .command ≡ 0 = omega arith in rw z)
+    (λ c. leaves (c .before .before .args .command) (omega arith) (omega arith))
+    (λ c. let z : c .before .before .before .args .command ≡ 7 = omega arith in rw z)
+    (λ c. let z : c .before .before .before .before .args .command ≡ 8 = omega arith in rw z)
+    (λ c. let z : c .before .before .before .before .before .args .command ≡ 9 = omega arith in rw z)
+    (λ c. let z : c .before .before .before .before .before .before .args .command ≡ 10 = omega arith in rw z)
+    (λ c. let z : c .before .before .before .before .before .before .before .args .command ≡ 11 = omega arith in rw z)
+    (λ c. let z : c .before .before .before .before .before .before .before .before .args .command ≡ 12 = omega arith in rw z)
+    (λ c. past-commands (c .before .before .before .before .before .before .before .before .args .command) (omega arith)))

@@ -1,29 +1,33 @@
 -- The shape of each command is that of `shapeOf`, a leaf for every byte that opens nothing more.
-use borrow.Author.Needs.{needs}
-use mathlib.Core.Path.{_≡_, refl}
-use Prim.Native.Nat.{ℕ, zero, suc}
+use mathlib.Core.Path.{_≡_, sym, _∙_}
+use mathlib.Core.List.{_∷_, []}
+use Prim.Native.Nat.{ℕ, _<_}
+use native.Mathlib.Omega.{arith}
+use lib.ListN.{replicate, getD-replicate, List·getD-append, List·getD-eq-default}
 use Rattle.signature_token.specs.Token.{shapeOf}
-use Rattle.signature_token.specs.declared.Shape.the-variants.{Leaf}
+use Rattle.signature_token.specs.declared.Shape.the-variants.{Leaf, Vector, Struct, StructInstantiation, Reference, MutableReference, TypeParameter}
 use Rattle.signature_token.proofs.shape_of.Statement.{statement}
 use Rattle.signature_token.proofs.shape_of.Tie as tie
 
--- no other byte opens more than a leaf
-other : (b : ℕ) → (b ≡ 7 → ⊥) → (b ≡ 8 → ⊥) → (b ≡ 9 → ⊥) → (b ≡ 10 → ⊥) → (b ≡ 11 → ⊥) → (b ≡ 12 → ⊥) → Leaf ≡ shapeOf b
-other zero f7 f8 f9 f10 f11 f12 = refl
-other (suc zero) f7 f8 f9 f10 f11 f12 = refl
-other (suc (suc zero)) f7 f8 f9 f10 f11 f12 = refl
-other (suc (suc (suc zero))) f7 f8 f9 f10 f11 f12 = refl
-other (suc (suc (suc (suc zero)))) f7 f8 f9 f10 f11 f12 = refl
-other (suc (suc (suc (suc (suc zero))))) f7 f8 f9 f10 f11 f12 = refl
-other (suc (suc (suc (suc (suc (suc zero)))))) f7 f8 f9 f10 f11 f12 = refl
-other (suc (suc (suc (suc (suc (suc (suc zero))))))) f7 f8 f9 f10 f11 f12 = absurd (f7 refl)
-other (suc (suc (suc (suc (suc (suc (suc (suc zero)))))))) f7 f8 f9 f10 f11 f12 = absurd (f8 refl)
-other (suc (suc (suc (suc (suc (suc (suc (suc (suc zero))))))))) f7 f8 f9 f10 f11 f12 = absurd (f9 refl)
-other (suc (suc (suc (suc (suc (suc (suc (suc (suc (suc zero)))))))))) f7 f8 f9 f10 f11 f12 = absurd (f10 refl)
-other (suc (suc (suc (suc (suc (suc (suc (suc (suc (suc (suc zero))))))))))) f7 f8 f9 f10 f11 f12 = absurd (f11 refl)
-other (suc (suc (suc (suc (suc (suc (suc (suc (suc (suc (suc (suc zero)))))))))))) f7 f8 f9 f10 f11 f12 = absurd (f12 refl)
-other (suc (suc (suc (suc (suc (suc (suc (suc (suc (suc (suc (suc (suc n))))))))))))) f7 f8 f9 f10 f11 f12 = refl
+-- every byte below the first command that opens more than a leaf, and every byte past the last, is a leaf's
+below-7 : (b : ℕ) → b < 7 → Leaf ≡ shapeOf b
+below-7 b h =
+    sym (List·getD-append (replicate 7 Leaf) (Vector ∷ Struct ∷ StructInstantiation ∷ Reference ∷ MutableReference ∷ TypeParameter ∷ []) Leaf b (omega arith)
+    ∙ getD-replicate 7 b Leaf Leaf h)
+
+past-12 : (b : ℕ) → 12 < b → Leaf ≡ shapeOf b
+past-12 b h =
+    sym (List·getD-eq-default (Leaf ∷ Leaf ∷ Leaf ∷ Leaf ∷ Leaf ∷ Leaf ∷ Leaf ∷ Vector ∷ Struct ∷ StructInstantiation ∷ Reference ∷ MutableReference ∷ TypeParameter ∷ []) Leaf h)
 
 pub shape-of-spec : {M : Type 1} → statement M
 shape-of-spec =
-    tie.close (tie.spec (λ c. search needs) (λ c. search needs) (λ c. search needs) (λ c. search needs) (λ c. search needs) (λ c. search needs) (λ c. other (c .before .args .command) (c .match .rest .0 .0 .0 .0 .0 .1) (c .match .rest .0 .0 .0 .0 .1) (c .match .rest .0 .0 .0 .1) (c .match .rest .0 .0 .1) (c .match .rest .0 .1) (c .match .rest .1)))
+    tie.close
+    (tie.spec
+    (λ c. below-7 (c .before .args .command) (omega arith))
+    (λ c. let z : c .before .before .args .command ≡ 7 = omega arith in rw z)
+    (λ c. let z : c .before .before .before .args .command ≡ 8 = omega arith in rw z)
+    (λ c. let z : c .before .before .before .before .args .command ≡ 9 = omega arith in rw z)
+    (λ c. let z : c .before .before .before .before .before .args .command ≡ 10 = omega arith in rw z)
+    (λ c. let z : c .before .before .before .before .before .before .args .command ≡ 11 = omega arith in rw z)
+    (λ c. let z : c .before .before .before .before .before .before .before .args .command ≡ 12 = omega arith in rw z)
+    (λ c. past-12 (c .before .before .before .before .before .before .before .args .command) (omega arith)))

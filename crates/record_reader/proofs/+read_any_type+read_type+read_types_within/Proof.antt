@@ -1,5 +1,5 @@
--- A type and a list of types, which call each other: with each command of a type one level less is allowed. The measure is twice the levels,
--- and one more for a list, which goes down to its types at the same level.
+-- A type and a list of types, which call each other: with each command of a type one level less is allowed. The measure is three times the
+-- levels, one more for a type that may be a leaf, and one more again for a list, which goes down to its types at the same level.
 use mathlib.Core.Path.{_≡_, refl, sym, _∙_}
 use Prim.Native.Nat.{ℕ, _+_, _-_, _*_, _≤_, _<_}
 use native.Mathlib.Omega.{arith}
@@ -15,22 +15,41 @@ use Rattle.record_reader.proofs.Walk.{counted-short, counted-starts, we
 use Rattle.record_reader.proofs.Types.{restTo, type-short, type-deep, type-shaped}
 use borrow.Fn.Kinds.{In}
 use borrow.Fn.PlainCycle.{Measures, is, falls, and}
+use Rattle.record_reader.proofs.read_any_type.Reads as read-any-type
+use Rattle.record_reader.proofs.read_any_type.Kinds as read-any-type-kinds
+use Rattle.record_reader.proofs.+read_any_type+read_type+read_types_within.Lts-read_any_type as read-any-type-lts
+use Rattle.record_reader.proofs.is_leaf_at.Reads as is-leaf-at-reads
 use Rattle.record_reader.proofs.read_type.Reads as read-type
 use Rattle.record_reader.proofs.read_type.Kinds as read-type-kinds
-use Rattle.record_reader.proofs.+read_type+read_types_within.Lts-read_type as read-type-lts
+use Rattle.record_reader.proofs.+read_any_type+read_type+read_types_within.Lts-read_type as read-type-lts
 use Rattle.record_reader.proofs.read_types_within.Reads as read-types-within
 use Rattle.record_reader.proofs.read_types_within.Kinds as read-types-within-kinds
-use Rattle.record_reader.proofs.+read_type+read_types_within.Lts-read_types_within as read-types-within-lts
+use Rattle.record_reader.proofs.+read_any_type+read_type+read_types_within.Lts-read_types_within as read-types-within-lts
 use Rattle.record_reader.proofs.skip_bytes.Reads as skip-bytes-reads
 use Rattle.record_reader.proofs.type_shape.Reads as type-shape-reads
-use Rattle.record_reader.proofs.+read_type+read_types_within.{statement}
-use Rattle.record_reader.proofs.+read_type+read_types_within.Tie.{close}
+use Rattle.record_reader.proofs.+read_any_type+read_type+read_types_within.{statement}
+use Rattle.record_reader.proofs.+read_any_type+read_type+read_types_within.Tie.{close}
+
+abbrev μ-read-any-type : Measures 1 read-any-type-kinds.ps ℕ
+μ-read-any-type κs a = 3 * a .1 .1 .0
 
 abbrev μ-read-type : Measures 1 read-type-kinds.ps ℕ
-μ-read-type κs a = 2 * a .1 .1 .0
+μ-read-type κs a = 3 * a .1 .1 .0 + 1
 
 abbrev μ-read-types-within : Measures 1 read-types-within-kinds.ps ℕ
-μ-read-types-within κs a = 2 * a .1 .1 .0 + 1
+μ-read-types-within κs a = 3 * a .1 .1 .0 + 2
+
+abbrev read-any-type-at : ℕ → In 1 read-any-type-kinds.ps
+read-any-type-at t =
+    and 1 read-any-type-kinds.ps (is 1 read-any-type-kinds.ps μ-read-any-type t) read-any-type.Pre
+
+abbrev read-any-type-below : ℕ → In 1 read-any-type-kinds.ps
+read-any-type-below t =
+    and
+    1
+    read-any-type-kinds.ps
+    (falls 1 read-any-type-kinds.ps _<_ μ-read-any-type t)
+    read-any-type.Pre
 
 abbrev read-type-at : ℕ → In 1 read-type-kinds.ps
 read-type-at t = and 1 read-type-kinds.ps (is 1 read-type-kinds.ps μ-read-type t) read-type.Pre
@@ -55,8 +74,8 @@ read-types-within-below t =
     (falls 1 read-types-within-kinds.ps _<_ μ-read-types-within t)
     read-types-within.Pre
 
--- what read_type calls
-abbrev claims : ℕ → read-type-lts.Claims
+-- what read_any_type calls
+abbrev claims : ℕ → read-any-type-lts.Claims
 claims t = (
   type-shape-reads.Asked,
   type-shape-reads.Learnt,
@@ -67,16 +86,16 @@ claims t = (
 )
 
 -- the type is what stands at p with so many levels left
-abbrev read-type-Inv-loop : read-type-lts.InvT-loop
-read-type-Inv-loop s at levels p₀ left₀ p left =
+abbrev read-any-type-Inv-loop : read-any-type-lts.InvT-loop
+read-any-type-Inv-loop s at levels p₀ left₀ p left =
     (left ≤ levels) × ((head : Head) → readTo (typeWithin (commandsOf head) levels s at) ≡ readTo (typeWithin (commandsOf head) left s p))
 
-abbrev read-type-μ-loop : read-type-lts.MeasureT-loop
-read-type-μ-loop s at levels p₀ left₀ p left = left
+abbrev read-any-type-μ-loop : read-any-type-lts.MeasureT-loop
+read-any-type-μ-loop s at levels p₀ left₀ p left = left
 
 -- once the command's shape is told, the rest of the type is read by it
 shaped :
-    (t : ℕ) (c : read-type-lts.After-type-shape (claims t) (read-type-at t) read-type.Post read-type-Inv-loop read-type-μ-loop) (head : Head) {shape : TypeShape} →
+    (t : ℕ) (c : read-any-type-lts.After-type-shape (claims t) (read-any-type-at t) read-any-type.Post read-any-type-Inv-loop read-any-type-μ-loop) (head : Head) {shape : TypeShape} →
     c .type-shape .result ≡ shape →
     restTo (typeWithin (commandsOf head) (c .before .before .before .before .loop .left - 1)) (c .before .before .before .before .loop .p) shape (c .before .before .before .before .before .before .args .s .now) (c .before .before .before .before .loop .p + 1)
     ≡ readTo (typeWithin (commandsOf head) (c .before .before .before .before .before .before .args .levels) (c .before .before .before .before .before .before .args .s .now) (c .before .before .before .before .before .before .args .at))
@@ -91,12 +110,12 @@ read-types-within-Inv-loop s at levels count next₀ i₀ next i =
 abbrev read-types-within-μ-loop : read-types-within-lts.MeasureT-loop
 read-types-within-μ-loop s at levels count next₀ i₀ next i = count - i
 
-pub +read-type+read-types-within-spec : {M : Type 1} → statement M
-+read-type+read-types-within-spec = close μ-read-type μ-read-types-within (λ t. read-type-lts.spec (claims t)
-    (read-type-at t)
-    read-type.Post
-    read-type-Inv-loop
-    read-type-μ-loop
+pub +read-any-type+read-type+read-types-within-spec : {M : Type 1} → statement M
++read-any-type+read-type+read-types-within-spec = close μ-read-any-type μ-read-type μ-read-types-within (λ t. read-any-type-lts.spec (claims t)
+    (read-any-type-at t)
+    read-any-type.Post
+    read-any-type-Inv-loop
+    read-any-type-μ-loop
     (λ c. (omega arith, λ head. refl))
     (λ c head. type-deep head _ _ (c .before .loop-test .taken) _ (c .if1 .taken) ∙ sym (c .before .before .loop .inv .1 head))
     (λ c. search needs)
@@ -127,6 +146,19 @@ pub +read-type+read-types-within-spec : {M : Type 1} → statement M
     (λ c. search needs)
     (λ c head. shaped t (c .before .before) head (c .enum-told6 .given .1))
     (λ c head. type-short head _ _ _ (c .loop-test .left) ∙ sym (c .before .loop .inv .1 head)))
+    (λ t. read-type-lts.spec (
+      is-leaf-at-reads.Asked,
+      is-leaf-at-reads.Learnt,
+      read-any-type-below t,
+      read-any-type.Post,
+    )
+    (read-type-at t)
+    read-type.Post
+    (λ c κs. search needs)
+    (λ c. omega (arith, c .before .is-leaf-at .ensures .within (c .if1 .taken)))
+    (λ c head. c .before .is-leaf-at .ensures .passes (c .if1 .taken) head)
+    (λ c κs. search needs)
+    (λ c. search needs))
     λ t. read-types-within-lts.spec
     (read-type-below t, read-type.Post)
     (read-types-within-at t)
