@@ -3,6 +3,7 @@
 use file_format::Ability;
 use file_format::ConstantPoolIndex;
 use file_format::LocalIndex;
+use locals::LocalResult;
 use status::StatusCode;
 use step_views::Checked;
 use type_stack::Stepped;
@@ -66,10 +67,10 @@ pub fn copy_loc(
     ensures { λ r. ⌜ ((p : UnitRead (now (s .entry)) (now (index .entry)) view) → StepsTo (step.copyLoc (compiledUnit (p .decoded)) (idx .0)) (now (area .entry)) weight (now (area .exit)) r) ⌝ }
 {
     match locals::local_at(parameters, locals, idx) {
-        TypeResult::Refused(status) => Stepped::Refused(status),
-        TypeResult::Found(local) => match step_views::check_ability(
+        LocalResult::Refused(status) => Stepped::Refused(status),
+        LocalResult::Found { at, end } => match step_views::check_ability(
             s,
-            local,
+            at,
             s,
             index,
             view,
@@ -77,7 +78,7 @@ pub fn copy_loc(
             StatusCode::COPYLOC_WITHOUT_COPY_ABILITY,
         ) {
             Checked::Refused(status) => Stepped::Refused(status),
-            Checked::Passed => push_type(area, weight, s, local),
+            Checked::Passed => copied_pushes::push_part(area, weight, s, at, end),
         },
     }
 }
@@ -99,8 +100,8 @@ pub fn move_loc(
     ensures { λ r. ⌜ ((p : UnitRead (now (s .entry)) (now (index .entry)) view) → StepsTo (step.moveLoc (compiledUnit (p .decoded)) (idx .0)) (now (area .entry)) weight (now (area .exit)) r) ⌝ }
 {
     match locals::local_at(parameters, locals, idx) {
-        TypeResult::Refused(status) => Stepped::Refused(status),
-        TypeResult::Found(local) => push_type(area, weight, s, local),
+        LocalResult::Refused(status) => Stepped::Refused(status),
+        LocalResult::Found { at, end } => copied_pushes::push_part(area, weight, s, at, end),
     }
 }
 
@@ -125,9 +126,9 @@ pub fn st_loc(
         return Stepped::Refused(StatusCode::EMPTY_STACK);
     };
     match locals::local_at(parameters, locals, idx) {
-        TypeResult::Refused(status) => Stepped::Refused(status),
-        TypeResult::Found(local) => {
-            if type_tests::same_type(area, start, len, s, local) {
+        LocalResult::Refused(status) => Stepped::Refused(status),
+        LocalResult::Found { at, end: _ } => {
+            if type_tests::same_type(area, start, len, s, at) {
                 Stepped::Next(start)
             } else {
                 Stepped::Refused(StatusCode::STLOC_TYPE_MISMATCH_ERROR)

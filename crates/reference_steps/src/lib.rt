@@ -2,6 +2,7 @@
 // pushes last.
 use file_format::Ability;
 use file_format::LocalIndex;
+use locals::LocalResult;
 use status::StatusCode;
 use step_views::Checked;
 use type_stack::Stepped;
@@ -9,13 +10,10 @@ use type_stack::Top;
 use type_stack::TopTwo;
 use type_tests::Referent;
 use unit::View;
-use unit_views::TypeResult;
-ghost use Prim.Native.Nat.{_≤_};
-ghost use lib.ListN.{length};
 ghost use Rattle.definitions.specs.Places.{TypeAt};
 ghost use Rattle.definitions.specs.Reader.{compiledUnit};
 ghost use Rattle.definitions.specs.TypeSafety as step;
-ghost use Rattle.type_stack.specs.Held.{Stacked};
+ghost use Rattle.type_stack.specs.Held.{Stacked, Part};
 ghost use Rattle.type_stack.specs.Stepping.{StepsTo};
 ghost use Rattle.unit.specs.Views.{UnitRead};
 ghost use Rattle.locals.specs.Locals.{LocalPlaces};
@@ -40,13 +38,19 @@ fn inner_at(s: &[u8], at: usize) -> EitherReference
     }
 }
 
-// Pushes a reference to the type that stands at `at` of s.
-fn push_reference(area: &mut [u8], weight: usize, mutable: bool, s: &[u8], at: usize) -> Stepped
+// Pushes a reference to the type that stands in s from `at` to `end`.
+fn push_reference(
+    area: &mut [u8],
+    weight: usize,
+    mutable: bool,
+    s: &[u8],
+    at: usize,
+    end: usize,
+) -> Stepped
     requires { ⌜ Stacked (now area) weight ⌝ }
-    requires { ⌜ TypeAt (now s) at × (length (now s) ≤ 65535) ⌝ }
-    ensures { λ r. ⌜ PushesReference mutable (now (s .entry)) at (now (area .entry)) weight (now (area .exit)) r ⌝ }
+    requires { ⌜ Part (now s) at end ⌝ }
+    ensures { λ r. ⌜ PushesReference mutable (now (s .entry)) at end (now (area .entry)) weight (now (area .exit)) r ⌝ }
 {
-    let end = signature_token::end_of_type(s, at);
     let command = type_pushes::reference_command(mutable);
     copied_pushes::push_wrapped(area, weight, command, s, at, end)
 }
@@ -69,10 +73,10 @@ pub fn borrow_loc(
     ensures { λ r. ⌜ ((p : UnitRead (now (s .entry)) (now (index .entry)) view) → StepsTo (step.borrowLoc (compiledUnit (p .decoded)) mutable (idx .0)) (now (area .entry)) weight (now (area .exit)) r) ⌝ }
 {
     match locals::local_at(parameters, locals, idx) {
-        TypeResult::Refused(status) => Stepped::Refused(status),
-        TypeResult::Found(local) => match inner_at(s, local) {
+        LocalResult::Refused(status) => Stepped::Refused(status),
+        LocalResult::Found { at, end } => match inner_at(s, at) {
             EitherReference::Inner(_) => Stepped::Refused(StatusCode::BORROWLOC_REFERENCE_ERROR),
-            EitherReference::Value => push_reference(area, weight, mutable, s, local),
+            EitherReference::Value => push_reference(area, weight, mutable, s, at, end),
         },
     }
 }

@@ -102,9 +102,9 @@ pub fn verify(area: &mut [u8], s: &[u8], index: &[u16], view: View) -> Verdict
     requires { ⌜ UnitRead (now s) (now index) view ⌝ }
     ensures { λ r. ⌜ ((p : UnitRead (now (s .entry)) (now (index .entry)) view) → r ≡ typeSafety (compiledUnit (p .decoded)) (length (now (area .entry)))) ⌝ }
 {
-    let mut first = [0u16; 255];
+    let mut first = [0u16; 256];
     let n = locals::parameter_places(s, index, view, &mut first);
-    let mut second = [0u16; 255];
+    let mut second = [0u16; 256];
     let m = locals::local_places(s, index, view, &mut second);
     match verify_blocks(area, s, index, view, &first[..n], &second[..m]) {
         Walk::Stands(_) => Verdict::Accepted,

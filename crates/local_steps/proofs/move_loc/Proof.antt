@@ -1,7 +1,9 @@
 -- There is no such local, or its type is pushed.
+use mathlib.Core.Path.{ap}
 use Rattle.definitions.specs.TypeSafety as step
-use Rattle.step_views.specs.Checks.{type-then, type-bad, unit-room}
-use Rattle.locals.specs.Locals.{local-type}
+use Rattle.copied_pushes.specs.Standing.{type-part, push-declared}
+use Rattle.step_views.specs.Checks.{type-then, type-bad}
+use Rattle.locals.specs.Locals.{placeAlone, local-type, local-room}
 use borrow.Author.Needs.{needs}
 use Rattle.local_steps.proofs.move_loc.Statement.{statement}
 use Rattle.local_steps.proofs.move_loc.Tie as tie
@@ -14,7 +16,7 @@ move-loc-spec =
     (λ c κs. search needs)
     (λ c. search needs)
     (λ c. search needs)
-    (λ c κs. (c .before .before .before .before .before .before .before .before .before .before .pre .0, unit-room (c .before .before .before .before .before .before .before .before .before .before .pre .1 .0) (λ q. local-type (c .before .before .before .before .before .before .before .before .before .before .pre .1 .1) q _ (c .before .before .before .before .local-at .ensures)) (c .before .before .local .given .1)))
-    (λ c p. type-bad (local-type (c .before .before .before .before .before .before .before .before .before .pre .1 .1) p _ (c .before .before .before .local-at .ensures)) _ (c .before .status .given .1))
+    (λ c κs. let (stacked, (unit, places)) = c .before .before .before .before .before .before .before .before .before .before .pre in let (type, ends, short) = local-room places unit _ (c .before .before .before .before .local-at .ensures) (c .before .before .at .given .1) in (stacked, type-part type ends short))
+    (λ c p. type-bad (local-type (c .before .before .before .before .before .before .before .before .before .pre .1 .1) p _ (c .before .before .before .local-at .ensures) .is) _ (ap placeAlone (c .before .status .given .1)))
     (λ c. search needs)
-    (λ c p. type-then (local-type (c .before .before .before .before .before .before .before .before .before .before .before .before .before .pre .1 .1) p _ (c .before .before .before .before .before .before .before .local-at .ensures)) _ (c .before .before .before .before .before .local .given .1) (c .before .before .push-type .ensures .steps)))
+    (λ c p. let (stacked, (unit, places)) = c .before .before .before .before .before .before .before .before .before .before .before .before .before .pre in let n = c .before .before .before .before .before .before .before .local-at .ensures in let f = c .before .before .before .before .before .at .given .1 in type-then (local-type places p _ n .is) _ (ap placeAlone f) (λ q. push-declared q (local-room places p _ n f .1) (c .before .before .push-part .ensures))))

@@ -40,11 +40,11 @@ use denote.Triple.Clauses.{ensured, lasts}
 use Rattle.file_format.specs.declared.LocalIndex.{LocalIndex}
 use Rattle.file_format.proofs.LocalIndex as I
 use Rattle.file_format.proofs.LocalIndex.Laws as I′
-use Rattle.unit_views.specs.declared.TypeResult.{TypeResult}
-use Rattle.unit_views.proofs.TypeResult as R
-use Rattle.unit_views.proofs.TypeResult.Laws as R′
 use Rattle.locals.specs.Locals.{placeOf}
 use Rattle.locals.specs.declared.Locals.{Locals}
+use Rattle.locals.specs.declared.LocalResult.{LocalResult}
+use Rattle.locals.proofs.LocalResult as R
+use Rattle.locals.proofs.LocalResult.Laws as R′
 use Rattle.locals.proofs.Locals.Laws as T′
 use Rattle.locals.proofs.Held.{B, D, L, fat}
 use Rattle.locals.proofs.place_of as place
@@ -74,7 +74,7 @@ module _ {M : Type 1} (𝓤 : URA M) (H : Heap 𝓤) (A : Atoms 𝓤) (W : Given
   abbrev vals : Vals at.signature κs
   vals = (mach ∷ [], (I′.lowered i ∷ [], tt))
 
-  abbrev found : TypeResult
+  abbrev found : LocalResult
   found = placeOf (now (d .parameters)) (now (d .locals)) (i .0)
 
   abbrev Post : Val → SProp 𝓤
@@ -112,10 +112,10 @@ module _ {M : Type 1} (𝓤 : URA M) (H : Heap 𝓤) (A : Atoms 𝓤) (W : Given
       move ! (2 ∷ 0 ∷ []) $ use2 W (raw (PlaceOf 𝓤 H A mem run .pre to)) asked $ frame ! $ done !)
 
   -- of the callee's `ensured`, the clause alone: it has no `&mut`, so what is said of last values is dropped
-  said : (r : TypeResult) → ent 𝓤 (ensured 𝓤 H A place.ended (place.clauses 𝓤 H A mem run) κs (d .parameters, (d .locals, (i, tt))) tt r) (fact 𝓤 (r ≡ found))
+  said : (r : LocalResult) → ent 𝓤 (ensured 𝓤 H A place.ended (place.clauses 𝓤 H A mem run) κs (d .parameters, (d .locals, (i, tt))) tt r) (fact 𝓤 (r ≡ found))
   said r = exE 𝓤 _ (λ ws. snd∗ 𝓤 (sem 𝓤 H A (lasts place.ended κs (d .parameters, (d .locals, (i, tt))) ws)) (fact 𝓤 (r ≡ found)))
 
-  exits : (r : TypeResult) (u : Val) → r ≡ found → ent 𝓤 (⋆ 𝓤 H A (‵ (R.the-row .own r (u ∷ [])) ∷ (‵ (flft κ q) ⊛ ‵ (flft κ′ q′) ⊛ ‵ ftrue) ∷ ‵ Kept ∷ [])) (Post u)
+  exits : (r : LocalResult) (u : Val) → r ≡ found → ent 𝓤 (⋆ 𝓤 H A (‵ (R.the-row .own r (u ∷ [])) ∷ (‵ (flft κ q) ⊛ ‵ (flft κ′ q′) ⊛ ‵ ftrue) ∷ ‵ Kept ∷ [])) (Post u)
   exits r u e =
       qed W (‵ (R.the-row .own r (u ∷ [])) ∷ (‵ (flft κ q) ⊛ ‵ (flft κ′ q′) ⊛ ‵ ftrue) ∷ ‵ Kept ∷ []) ∵
       suffices ! _ (ends-at 𝓤 H A at.ended stayed (at.clauses 𝓤 H A mem run) W ((κs, (q, (q′, tt)), tt, (d, (i, tt)), vals), tt) u r (tt, (tt, tt)) (tt, (tt, tt))) $ says ! e $
@@ -134,7 +134,7 @@ module _ {M : Type 1} (𝓤 : URA M) (H : Heap 𝓤) (A : Atoms 𝓤) (W : Given
         move ! (10 ∷ []) $ use1 W (raw (PlaceOf 𝓤 H A mem run .pre to) ⊛ ‵ Kept) (apart is) $ split ! $
         calls-at ! fm (PlaceOf 𝓤 H A mem run) known to
         (and-then ! (load ! (from ! (stop !)) (look ! 4 refl)) (and-then ! (load ! (from ! (stop !)) (look ! 2 refl)) (and-then ! (load ! (from ! (stop !)) (look ! 6 refl)) (no-more !)))) (λ u.
-        use1 W (later (some (λ (r : TypeResult). ((‵ (flft κ q) ⊛ ‵ (flft κ′ q′) ⊛ ‵ ftrue) ⊛ ‵ (R.the-row .own r (u ∷ []))) ⊛ raw (ensured 𝓤 H A place.ended (place.clauses 𝓤 H A mem run) κs (d .parameters, (d .locals, (i, tt))) tt r)))) (id⊢ 𝓤 _) $
+        use1 W (later (some (λ (r : LocalResult). ((‵ (flft κ q) ⊛ ‵ (flft κ′ q′) ⊛ ‵ ftrue) ⊛ ‵ (R.the-row .own r (u ∷ []))) ⊛ raw (ensured 𝓤 H A place.ended (place.clauses 𝓤 H A mem run) κs (d .parameters, (d .locals, (i, tt))) tt r)))) (id⊢ 𝓤 _) $
         await ! tt $ pick ! (λ r.
         split ! $ move ! (1 ∷ []) $ use1 W (raw (fact 𝓤 (r ≡ found))) (said r) $ heard ! (r ≡ found) (λ e. split ! $ move ! (1 ∷ []) $
         -- [the result; the tokens; what is kept; _4; …; _3; …; _2; …; _1; …; room for _0; …]

@@ -38,11 +38,11 @@ use denote.Triple.Clauses.{ensured, lasts}
 use Rattle.file_format.specs.declared.LocalIndex.{LocalIndex}
 use Rattle.file_format.proofs.LocalIndex as I
 use Rattle.file_format.proofs.LocalIndex.Laws as I′
-use Rattle.unit_views.specs.declared.TypeResult.{TypeResult}
-use Rattle.unit_views.proofs.TypeResult as R
-use Rattle.unit_views.proofs.TypeResult.Laws as R′
 use Rattle.locals.specs.Locals.{placeOf}
 use Rattle.locals.specs.declared.Locals.{Locals}
+use Rattle.locals.specs.declared.LocalResult.{LocalResult}
+use Rattle.locals.proofs.LocalResult as R
+use Rattle.locals.proofs.LocalResult.Laws as R′
 use Rattle.locals.proofs.Locals as T
 use Rattle.locals.proofs.Locals.Laws as T′
 use Rattle.locals.proofs.Held.{B, fat, Slices, slices-twice}
@@ -77,7 +77,7 @@ module _ {M : Type 1} (𝓤 : URA M) (H : Heap 𝓤) (A : Atoms 𝓤) (W : Given
   abbrev vals : Vals local-at.signature κs
   vals = (fat s ∷ [], (fat t ∷ [], (I′.lowered i ∷ [], tt)))
 
-  abbrev found : TypeResult
+  abbrev found : LocalResult
   found = placeOf (now s) (now t) (i .0)
 
   -- the lifetimes of the struct's type as a local of a body has it
@@ -119,13 +119,13 @@ module _ {M : Type 1} (𝓤 : URA M) (H : Heap 𝓤) (A : Atoms 𝓤) (W : Given
       qed W (‵ (B κs .own r (u ∷ [])) ∷ (‵ (flft κ q) ⊛ ‵ (flft κ′ q′) ⊛ ‵ ftrue) ∷ []) ∵
       nothing ! $ owned ! I.the-row (Is I.the-row) (LL.makes I.the-type I′.the-plain 𝓤 H A) i _ is $ fjoin ! $ move ! (1 ∷ 0 ∷ []) $ fjoin ! $ move ! (1 ∷ 0 ∷ []) $ join ! $ frame ! $ done !
 
-  abbrev At-says : Locals → TypeResult → Type 0
+  abbrev At-says : Locals → LocalResult → Type 0
   At-says r x = x ≡ placeOf (now (r .parameters)) (now (r .locals)) (i .0)
 
-  at-said : (r : Locals) (x : TypeResult) → ent 𝓤 (ensured 𝓤 H A at.ended (at.clauses 𝓤 H A mem run) κs (r, (i, tt)) tt x) (fact 𝓤 (At-says r x))
+  at-said : (r : Locals) (x : LocalResult) → ent 𝓤 (ensured 𝓤 H A at.ended (at.clauses 𝓤 H A mem run) κs (r, (i, tt)) tt x) (fact 𝓤 (At-says r x))
   at-said r x = exE 𝓤 _ (λ ws. snd∗ 𝓤 (sem 𝓤 H A (lasts at.ended κs (r, (i, tt)) ws)) (fact 𝓤 (At-says r x)))
 
-  exits : (x : TypeResult) (u : Val) → x ≡ found → ent 𝓤 (⋆ 𝓤 H A (‵ (R.the-row .own x (u ∷ [])) ∷ (‵ (flft κ q) ⊛ ‵ (flft κ′ q′) ⊛ ‵ ftrue) ∷ ‵ Kept ∷ [])) (Post u)
+  exits : (x : LocalResult) (u : Val) → x ≡ found → ent 𝓤 (⋆ 𝓤 H A (‵ (R.the-row .own x (u ∷ [])) ∷ (‵ (flft κ q) ⊛ ‵ (flft κ′ q′) ⊛ ‵ ftrue) ∷ ‵ Kept ∷ [])) (Post u)
   exits x u e =
       qed W (‵ (R.the-row .own x (u ∷ [])) ∷ (‵ (flft κ q) ⊛ ‵ (flft κ′ q′) ⊛ ‵ ftrue) ∷ ‵ Kept ∷ []) ∵
       suffices ! _ (ends-at 𝓤 H A local-at.ended stayed (local-at.clauses 𝓤 H A mem run) W ((κs, (q, (q′, tt)), tt, (s, (t, (i, tt))), vals), tt) u x (tt, (tt, (tt, tt))) (tt, (tt, (tt, tt)))) $ says ! e $
@@ -149,7 +149,7 @@ module _ {M : Type 1} (𝓤 : URA M) (H : Heap 𝓤) (A : Atoms 𝓤) (W : Given
         land ! (from ! (stop !)) (init ! 3 refl (LL.lawful (T.the-type αᵉ βᵉ) (T′.the-laws αᵉ βᵉ) 𝓤 H A W .typed r _ are .0)) $
         use2 W (raw (At 𝓤 H A mem run .pre (to-at r u))) (goes-at is r u) $
         calls-at ! fm (At 𝓤 H A mem run) known-at (to-at r u) (and-then ! (load ! (from ! (stop !)) (look ! 2 refl)) (and-then ! (load ! (from ! (stop !)) (look ! 4 refl)) (no-more !))) (λ u′.
-        use1 W (later (some (λ (x : TypeResult). ((‵ (flft κ q) ⊛ ‵ (flft κ′ q′) ⊛ ‵ ftrue) ⊛ ‵ (R.the-row .own x (u′ ∷ []))) ⊛ raw (ensured 𝓤 H A at.ended (at.clauses 𝓤 H A mem run) κs (r, (i, tt)) tt x)))) (id⊢ 𝓤 _) $ await ! tt $ pick ! (λ x.
+        use1 W (later (some (λ (x : LocalResult). ((‵ (flft κ q) ⊛ ‵ (flft κ′ q′) ⊛ ‵ ftrue) ⊛ ‵ (R.the-row .own x (u′ ∷ []))) ⊛ raw (ensured 𝓤 H A at.ended (at.clauses 𝓤 H A mem run) κs (r, (i, tt)) tt x)))) (id⊢ 𝓤 _) $ await ! tt $ pick ! (λ x.
         split ! $ move ! (1 ∷ []) $ use1 W (raw (fact 𝓤 (At-says r x))) (at-said r x) $ heard ! (At-says r x) (λ e′. split ! $ move ! (1 ∷ []) $
         -- [the result; the tokens; what is kept; _4; …; _3; …; _2; …; _1; …; room for _0; …]
         peeks ! R.the-row (Is R.the-row) (shows 𝓤 H A R.the-row) x (u′ ∷ []) (λ is′.

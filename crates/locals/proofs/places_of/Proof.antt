@@ -1,7 +1,8 @@
--- `places_of`: the places that the walk along the list leaves.
+-- `places_of`: the places that the walk along the list leaves, and behind them the end that it answers.
 use native.Mathlib.Omega.{arith}
+use Rattle.type_places.specs.Places.{ends-within}
 use Rattle.record_views.specs.Reread.{types-at}
-use Rattle.locals.specs.Locals.{places-in}
+use Rattle.locals.specs.Locals.{no-places, places-in}
 use borrow.Author.Needs.{needs}
 use Rattle.locals.proofs.places_of.Statement.{statement}
 use Rattle.locals.proofs.places_of.Tie as tie
@@ -10,6 +11,11 @@ pub places-of-spec : {M : Type 1} → statement M
 places-of-spec =
     tie.close
     (tie.spec
-    (λ c κs. let q = c .before .before .before .pre .0 in (types-at q, (omega (arith, q .are .small, c .before .before .before .pre .1), omega (arith, c .before .before .before .pre .1))))
+    (λ c q. no-places q (omega arith) (omega arith))
+    (λ c κs. let q = c .before .before .before .before .pre .0 in (types-at q, (omega (arith, q .are .small), omega arith)))
+    (λ c. omega (arith, ends-within (omega arith) (types-at (c .before .before .before .before .before .before .before .pre .0)) (c .before .before .type-places .ensures)))
     (λ c. search needs)
-    (λ c. λ q. places-in (c .before .before .type-places .ensures) q))
+    (λ c. search needs)
+    (λ c. search needs)
+    (λ c. search needs)
+    (λ c q. places-in q (c .before .before .type-places .ensures) (omega (arith, q .are .small))))

@@ -1,9 +1,11 @@
 -- There is no such local, or it is a reference, or a reference to it is pushed.
+use mathlib.Core.Path.{ap}
 use Rattle.definitions.specs.TypeSafety as step
 use Rattle.type_stack.specs.Stepping.{check-then, check-bad}
 use Rattle.reference_steps.specs.Inner.{a-reference, no-reference}
-use Rattle.step_views.specs.Checks.{type-then, type-bad, unit-type, unit-room}
-use Rattle.locals.specs.Locals.{local-type}
+use Rattle.copied_pushes.specs.Standing.{type-part}
+use Rattle.step_views.specs.Checks.{type-then, type-bad}
+use Rattle.locals.specs.Locals.{placeAlone, local-type, local-room}
 use borrow.Author.Needs.{needs}
 use Rattle.reference_steps.proofs.borrow_loc.Statement.{statement}
 use Rattle.reference_steps.proofs.borrow_loc.Tie as tie
@@ -16,11 +18,11 @@ borrow-loc-spec =
     (λ c κs. search needs)
     (λ c. search needs)
     (λ c. search needs)
-    (λ c κs. unit-type (c .before .before .before .before .before .before .before .before .before .pre .1 .0) (λ q. local-type (c .before .before .before .before .before .before .before .before .before .pre .1 .1) q _ (c .before .before .before .local-at .ensures)) (c .before .local .given .1))
+    (λ c κs. local-room (c .before .before .before .before .before .before .before .before .before .pre .1 .1) (c .before .before .before .before .before .before .before .before .before .pre .1 .0) _ (c .before .before .before .local-at .ensures) (c .before .at .given .1) .0)
     (λ c. search needs)
     (λ c. search needs)
-    (λ c κs. (c .before .before .before .before .before .before .before .before .before .before .before .before .before .pre .0, unit-room (c .before .before .before .before .before .before .before .before .before .before .before .before .before .pre .1 .0) (λ q. local-type (c .before .before .before .before .before .before .before .before .before .before .before .before .before .pre .1 .1) q _ (c .before .before .before .before .before .before .before .local-at .ensures)) (c .before .before .before .before .before .local .given .1)))
-    (λ c p. type-bad (local-type (c .before .before .before .before .before .before .before .before .before .pre .1 .1) p _ (c .before .before .before .local-at .ensures)) _ (c .before .status .given .1))
-    (λ c p. type-then (local-type (c .before .before .before .before .before .before .before .before .before .before .before .before .pre .1 .1) p _ (c .before .before .before .before .before .before .local-at .ensures)) _ (c .before .before .before .before .local .given .1) (λ q. check-bad _ (a-reference (c .before .before .inner-at .ensures) q (c .enum-told .given .1))))
+    (λ c κs. let (stacked, (unit, places)) = c .before .before .before .before .before .before .before .before .before .before .before .before .before .pre in let (type, ends, short) = local-room places unit _ (c .before .before .before .before .before .before .before .local-at .ensures) (c .before .before .before .before .before .at .given .1) in (stacked, type-part type ends short))
+    (λ c p. type-bad (local-type (c .before .before .before .before .before .before .before .before .before .pre .1 .1) p _ (c .before .before .before .local-at .ensures) .is) _ (ap placeAlone (c .before .status .given .1)))
+    (λ c p. type-then (local-type (c .before .before .before .before .before .before .before .before .before .before .before .before .pre .1 .1) p _ (c .before .before .before .before .before .before .local-at .ensures) .is) _ (ap placeAlone (c .before .before .before .before .at .given .1)) (λ q. check-bad _ (a-reference (c .before .before .inner-at .ensures) q (c .enum-told .given .1))))
     (λ c. search needs)
-    (λ c p. type-then (local-type (c .before .before .before .before .before .before .before .before .before .before .before .before .before .before .before .before .pre .1 .1) p _ (c .before .before .before .before .before .before .before .before .before .before .local-at .ensures)) _ (c .before .before .before .before .before .before .before .before .local .given .1) (λ q. check-then _ _ (no-reference (c .before .before .before .before .before .before .inner-at .ensures) q (c .before .before .before .before .enum-told2 .given .1)) (c .before .before .push-reference .ensures .steps q))))
+    (λ c p. let (stacked, (unit, places)) = c .before .before .before .before .before .before .before .before .before .before .before .before .before .before .before .before .pre in let n = c .before .before .before .before .before .before .before .before .before .before .local-at .ensures in let f = c .before .before .before .before .before .before .before .before .at .given .1 in type-then (local-type places p _ n .is) _ (ap placeAlone f) (λ q. check-then _ _ (no-reference (c .before .before .before .before .before .before .inner-at .ensures) q (c .before .before .before .before .enum-told2 .given .1)) (c .before .before .push-reference .ensures .steps q (local-room places p _ n f .1)))))

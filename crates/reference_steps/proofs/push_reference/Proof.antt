@@ -1,5 +1,5 @@
 -- The type's bytes are pushed behind the command of its kind of reference.
-use Rattle.copied_pushes.specs.Standing.{type-part, push-reference}
+use Rattle.copied_pushes.specs.Standing.{push-reference}
 use borrow.Author.Needs.{needs}
 use Rattle.reference_steps.proofs.push_reference.Statement.{statement}
 use Rattle.reference_steps.proofs.push_reference.Tie as tie
@@ -10,6 +10,5 @@ push-reference-spec =
     (tie.spec
     (λ c κs. search needs)
     (λ c κs. search needs)
-    (λ c κs. let (stacked, (type, short)) = c .before .before .before .before .before .pre in (stacked, type-part type (c .before .before .end-of-type .ensures) short))
     (λ c. search needs)
-    (λ c. record { steps = λ p. push-reference p (c .before .before .before .before .before .end-of-type .ensures) (c .before .before .before .before .reference-command .ensures) (c .before .before .push-wrapped .ensures) }))
+    (λ c. record { steps = λ p ends. push-reference p ends (c .before .before .before .before .reference-command .ensures) (c .before .before .push-wrapped .ensures) }))

@@ -19,7 +19,7 @@ verify-spec =
     (λ c. sym (length-take-le _ _ (c .before .before .before .before .before .before .parameter-places .ensures .are (c .before .before .before .before .before .before .before .before .before .before .before .pre .1) .fits)))
     (λ c. c .before .before .before .local-places .ensures .are (c .before .before .before .before .before .before .before .before .before .before .before .pre .1) .fits)
     (λ c. sym (length-take-le _ _ (c .before .before .before .before .local-places .ensures .are (c .before .before .before .before .before .before .before .before .before .before .before .before .pre .1) .fits)))
-    (λ c κs. (c .before .before .before .before .before .before .before .before .before .before .before .before .pre .0, (c .before .before .before .before .before .before .before .before .before .before .before .before .pre .1, record { first = λ p. c .before .before .before .before .before .before .before .parameter-places .ensures .are p .standing; second = λ p. c .before .before .before .before .local-places .ensures .are p .standing })))
+    (λ c κs. (c .before .before .before .before .before .before .before .before .before .before .before .before .pre .0, (c .before .before .before .before .before .before .before .before .before .before .before .before .pre .1, record { first = λ p. c .before .before .before .before .before .before .before .parameter-places .ensures .are p .consecutive; second = λ p. c .before .before .before .before .local-places .ensures .are p .consecutive })))
     (λ c. search needs)
     (λ c. search needs)
     (λ c. omega (arith, near-offset (c .before .before .before .before .before .verify-blocks .ensures (c .before .before .before .before .before .before .before .before .before .before .before .before .before .before .before .before .before .before .pre .1)) (c .before .status .given .1)))
