@@ -8,16 +8,17 @@ use Rattle.definitions.specs.Result.{ok, at}
 use Rattle.definitions.specs.Bytecode.{Bytecode, Nop}
 use Rattle.definitions.specs.Reading.{Placed}
 use Rattle.definitions.specs.Reader.{compiledUnit, items, block}
-use Rattle.record_reader.specs.Apart.{u16Of, pair-read}
+use Rattle.record_reader.specs.Apart.{u16Of, numberOf, pair-read}
 use Rattle.record_views.specs.declared.Instruction.{Instruction}
 use Rattle.record_views.specs.Records.{InstructionHere, InstructionIs}
+use Rattle.record_views.specs.Reread.{reread, is-here}
 use Rattle.unit.specs.declared.View.{View}
 use Rattle.unit.specs.Outline.{starts, placesOf}
 use Rattle.unit.specs.Entries.{Has, segments, baseFrom, segment-at}
 use Rattle.unit.specs.Views.{UnitRead, viewOf}
 use Rattle.code_views.specs.declared.Block.{Block}
 use Rattle.unit_tables.specs.Tables.{Fits, stand, blocks-in, found}
-use Rattle.code_views.specs.Answers.{blockOf, BlockAt, InstructionAt}
+use Rattle.code_views.specs.Answers.{blockOf, BlockAt, opcodeByte, InstructionAt, OpcodeAt}
 
 -- ── blocks ──
 
@@ -76,9 +77,20 @@ module _ {s index : List ℕ} {view : View} (u : UnitRead s index view) where
         let k = stand u .code .stands i code-placed first in
         record { head = u .decoded .head; instruction = getD (u .decoded .code) i first .item; ends = k .0; reads = rw start-is at (k .1) }
 
-    pub instruction-is : {r : Instruction} → ((k : InstructionHere s p) → InstructionIs (k .instruction) r) → InstructionAt (compiledUnit (u .decoded)) i r
-    unfolding compiledUnit instruction-here
+    pub instruction-is : {r : Instruction} → ((k : InstructionHere s p) → InstructionIs k r) → InstructionAt (compiledUnit (u .decoded)) i (opcodeByte s index view i) r
+    unfolding compiledUnit instruction-here opcodeByte
     instruction-is k = record {
       known = k instruction-here .known;
+      opcode = k instruction-here .opcode ∙ ap (λ (x : ℕ). getD s x 0) e;
       is = nth-placed (u .decoded .code) i first code-placed .0 ∙ ap ok (k instruction-here .is);
     }
+
+    -- the byte at its place is one of the unit
+    pub opcode-within : p < length s
+    opcode-within = reread instruction-here .within
+
+    -- and its opcode: the instruction has that and whatever operands stand behind it
+    pub opcode-is : {r : ℕ} → r ≡ getD s p 0 → OpcodeAt (compiledUnit (u .decoded)) i (opcodeByte s index view i) r
+    opcode-is {r} o =
+        let a = instruction-is {r = record { opcode = r; local = getD s (p + 1) 0; operand = u16Of s (p + 1); count = numberOf 8 s (p + 1 + 2) }} (λ k. is-here k o (λ _. refl) (λ _. refl) (λ _. (refl, refl))) in
+        record { known = a .known; opcode = a .opcode; local = _; operand = _; count = _; is = a .is }

@@ -4,7 +4,7 @@ use unit::View;
 ghost use Prim.Native.Nat.{_+_, _<_};
 ghost use Rattle.definitions.specs.Reader.{compiledUnit};
 ghost use Rattle.unit.specs.Views.{UnitRead};
-ghost use Rattle.code_views.specs.Answers.{InstructionAt, BlockAt};
+ghost use Rattle.code_views.specs.Answers.{opcodeByte, InstructionAt, OpcodeAt, BlockAt};
 
 // The first and the last instruction.
 pub struct Block {
@@ -16,9 +16,19 @@ pub struct Block {
 pub fn instruction_at(s: &[u8], index: &[u16], view: View, i: usize) -> Instruction
     requires { ⌜ UnitRead (now s) (now index) view ⌝ }
     requires { ⌜ i < view .code .count ⌝ }
-    ensures { λ r. ⌜ ((p : UnitRead (now (s .entry)) (now (index .entry)) view) → InstructionAt (compiledUnit (p .decoded)) i r) ⌝ }
+    ensures { λ r. ⌜ ((p : UnitRead (now (s .entry)) (now (index .entry)) view) → InstructionAt (compiledUnit (p .decoded)) i (opcodeByte (now (s .entry)) (now (index .entry)) view i) r) ⌝ }
 {
     record_views::instruction_at(s, unit_tables::place(index, view.code, i))
+}
+
+// The opcode of instruction i alone.
+pub fn opcode_at(s: &[u8], index: &[u16], view: View, i: usize) -> u8
+    requires { ⌜ UnitRead (now s) (now index) view ⌝ }
+    requires { ⌜ i < view .code .count ⌝ }
+    ensures { λ r. ⌜ ((p : UnitRead (now (s .entry)) (now (index .entry)) view) → OpcodeAt (compiledUnit (p .decoded)) i (opcodeByte (now (s .entry)) (now (index .entry)) view i) r) ⌝ }
+{
+    let p = unit_tables::place(index, view.code, i);
+    s[p]
 }
 
 // Block i, one of those listed.

@@ -88,7 +88,7 @@ by-arm ks P lo (suc n) e k r h l = go (ℕ-discrete k lo) (λ i. by-arm ks P (su
     go (yes i) f = not-key ks k (P k) r (rw i (e .0))
     go (no i) f = f i
 
-module _ {u : CompiledUnit} {i : ℕ} {it : Instruction} (k : InstructionAt u i it) {a b : List ℕ} {w : ℕ} {r : Stepped} where
+module _ {u : CompiledUnit} {i o : ℕ} {it : Instruction} (k : InstructionAt u i o it) {a b : List ℕ} {w : ℕ} {r : Stepped} where
   pub does-at : StepOf u (it .opcode) (it .local) (it .operand) (it .count) a w b r → DoesAt u i a w b r
   does-at h = record { instruction = _; stands = k .is; steps = h }
 

@@ -71,6 +71,8 @@ pub record InstructionHere (s : List ℕ) (at : ℕ) : Type 0 where
   pub ends : ℕ
   pub reads : reader.instruction (commandsOf head) s at ≡ read instruction ends
 
-pub record InstructionIs (b : Bytecode) (r : Instruction) : Type 0 where
+-- r is that instruction, and its opcode is the byte there
+pub record InstructionIs {s : List ℕ} {at : ℕ} (p : InstructionHere s at) (r : Instruction) : Type 0 where
   pub known : r .opcode < 71
-  pub is : b ≡ instructionOf (r .opcode) (r .local) (r .operand) (r .count)
+  pub opcode : r .opcode ≡ getD s at 0
+  pub is : p .instruction ≡ instructionOf (r .opcode) (r .local) (r .operand) (r .count)

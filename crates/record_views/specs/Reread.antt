@@ -222,9 +222,9 @@ by-operands form (counted-at e) f g h = rw (h refl .0, h refl .1) e
 pub is-here :
     {s : List ℕ} {at : ℕ} (p : InstructionHere s at) {r : Instruction} → r .opcode ≡ getD s at 0 →
     (operandWidth (getD s at 0) ≡ 1 → r .local ≡ getD s (at + 1) 0) → (operandWidth (getD s at 0) ≡ 2 → r .operand ≡ u16Of s (at + 1)) →
-    (operandWidth (getD s at 0) ≡ 10 → (r .operand ≡ u16Of s (at + 1)) × (r .count ≡ numberOf 8 s (at + 1 + 2))) → InstructionIs (p .instruction) r
+    (operandWidth (getD s at 0) ≡ 10 → (r .operand ≡ u16Of s (at + 1)) × (r .count ≡ numberOf 8 s (at + 1 + 2))) → InstructionIs p r
 unfolding instructionOf operandWidth
-is-here p o f g h = record { known = rw o (reread p .known); is = rw o (by-operands _ (reread p .operands-at) f g h) }
+is-here p o f g h = record { known = rw o (reread p .known); opcode = o; is = rw o (by-operands _ (reread p .operands-at) f g h) }
 
 -- ── a u64 ──
 

@@ -102,7 +102,7 @@ pub fn struct_def_at(s: &[u8], at: usize) -> StructDef
 // The instruction whose opcode stands at `at`, its operands read by how many bytes they take.
 fn instruction_by_width(s: &[u8], at: usize) -> Instruction
     requires { ⌜ InstructionHere (now s) at ⌝ }
-    ensures { λ r. ⌜ ((p : InstructionHere (now (s .entry)) at) → InstructionIs (p .instruction) r) ⌝ }
+    ensures { λ r. ⌜ ((p : InstructionHere (now (s .entry)) at) → InstructionIs p r) ⌝ }
 {
     let opcode = s[at];
     match record_reader::operand_width(wide(opcode)) {
@@ -137,7 +137,7 @@ fn instruction_by_width(s: &[u8], at: usize) -> Instruction
 // operand, with no decision over the opcode: that is left to whoever uses them.
 pub fn instruction_at(s: &[u8], at: usize) -> Instruction
     requires { ⌜ InstructionHere (now s) at ⌝ }
-    ensures { λ r. ⌜ ((p : InstructionHere (now (s .entry)) at) → InstructionIs (p .instruction) r) ⌝ }
+    ensures { λ r. ⌜ ((p : InstructionHere (now (s .entry)) at) → InstructionIs p r) ⌝ }
 {
     if s.len() - at <= 10 {
         return instruction_by_width(s, at);

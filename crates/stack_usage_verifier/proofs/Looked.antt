@@ -1,11 +1,12 @@
 -- Effects that are looked up: one look-up after another, what each look-up of the unit tells, a call's effect by the counts of its two
--- signatures, and the decision over the opcode.
-use mathlib.Core.Path.{_≡_, refl, sym, ap}
-use mathlib.Core.Bool.{false}
-use mathlib.Core.List.{List, [], _∷_}
-use Prim.Native.Nat.{ℕ}
-use lib.ListN.{length}
-use borrow.Author.Tests.{ne-eqb}
+-- signatures, the decision over the opcode, and the entry of the table.
+use mathlib.Core.Path.{_≡_, refl, sym, ap, _∙_}
+use mathlib.Core.Bool.{Bool, true, false, _||_}
+use mathlib.Core.List.{List, [], _∷_, _++_}
+use Prim.Native.Nat.{ℕ, _/_, _%_}
+use lib.Dec.{eqb}
+use lib.ListN.{length, getD}
+use borrow.Author.Tests.{eqb-true, eq-eqb, ne-eqb}
 use Rattle.status.specs.declared.StatusCode.{StatusCode}
 use Rattle.definitions.specs.Result.{Result, ok, err, _>>?_}
 use Rattle.definitions.specs.SignatureToken.{Signature}
@@ -17,11 +18,10 @@ use Rattle.record_views.specs.declared.Fields.{Fields}
 use Rattle.unit_views.specs.declared.SignatureResult.{SignatureResult}
 use Rattle.unit_views.specs.declared.StructDefResult.{StructDefResult}
 use Rattle.record_views.specs.Records.{FieldsAre, instructionOf}
-use Rattle.code_views.specs.Answers.{InstructionAt}
+use Rattle.code_views.specs.Answers.{InstructionAt, OpcodeAt}
 use Rattle.unit_views.specs.Answers.{SignatureIs, signatureAnswer, StructDefIs, structDefAnswer}
-use Rattle.stack_usage_verifier.specs.declared.Effect.{Effect}
 use Rattle.stack_usage_verifier.specs.declared.EffectResult.{EffectResult}
-use Rattle.stack_usage_verifier.specs.Effects.{looksUp, FixedEffect}
+use Rattle.stack_usage_verifier.specs.Effects.{looksUp, EntryOf, EffectTable}
 use Rattle.stack_usage_verifier.specs.Answers.{effectResult, InstructionEffectAt}
 
 module _ {A B : Type 0} (f : A → Result B) {x : Result A} where
@@ -106,21 +106,45 @@ abbrev Rest : Type 0 → List ℕ → ℕ → Type 0
 Rest A [] k = A
 Rest A (x ∷ xs) k = Rest (A × (k ≡ x → ⊥)) xs k
 
-pub none-of : (A : Type 0) (keys : List ℕ) (k : ℕ) → Rest A keys k → A × (oneOf keys k ≡ false)
+-- a number that is one of the keys or the last, and none of the keys, is the last
+last-of : (A : Type 0) (keys : List ℕ) (last k : ℕ) → Rest A keys k → A × (oneOf (keys ++ (last ∷ [])) k ≡ true → k ≡ last)
 unfolding oneOf
-none-of A [] k r = (r, refl)
-none-of A (x ∷ xs) k r =
-    let (known, e) = none-of (A × (k ≡ x → ⊥)) xs k r in
+last-of A [] last k r = (r, λ e. sym (eqb-true last k (go (eqb last k) e)))
+  where
+    go : (b : Bool) → (b || false) ≡ true → b ≡ true
+    go true e = refl
+    go false e = e
+last-of A (x ∷ xs) last k r =
+    let (known, f) = last-of (A × (k ≡ x → ⊥)) xs last k r in
     let n : x ≡ k → ⊥ = λ p. known .1 (sym p) in
-    (known .0, rw (ne-eqb x k n, e))
+    (known .0, λ e. f (rw (ne-eqb x k n) at e))
 
-module _ {u : CompiledUnit} {i : ℕ} {instruction : Instruction} (a : InstructionAt u i instruction) where
+-- Ret to VecPack, of the opcodes that look their effect up
+abbrev arms : List ℕ
+arms = 1 ∷ 17 ∷ 18 ∷ 19 ∷ 20 ∷ 21 ∷ 22 ∷ 63 ∷ []
+
+module _ {u : CompiledUnit} {i o : ℕ} {instruction : Instruction} (a : InstructionAt u i o instruction) where
   -- an opcode that looks its effect up
   pub looked-up :
       {r : EffectResult} (opcode : ℕ) → instruction .opcode ≡ opcode →
       effectResult r ≡ instructionEffect u (instructionOf opcode (instruction .local) (instruction .operand) (instruction .count)) → InstructionEffectAt u i r
   looked-up opcode e k = record { instruction = _; stands = a .is; effect = rw e k }
 
-  -- and one whose effect is the table's
-  pub in-table : {e : Effect} → looksUp (instruction .opcode) ≡ false → FixedEffect (instruction .opcode) e → InstructionEffectAt u i (EffectResult.Found (e .0) (e .1))
-  in-table none f = record { instruction = _; stands = a .is; effect = sym (f .agrees none u (instruction .local) (instruction .operand) (instruction .count)) }
+  -- one of them that has no arm of its own is VecUnpack
+  pub vec-unpack : looksUp o ≡ true → Rest (Unit {0}) arms (instruction .opcode) → instruction .opcode ≡ 69
+  unfolding looksUp
+  vec-unpack h r = last-of (Unit {0}) arms 69 (instruction .opcode) r .1 (rw (a .opcode) h)
+
+-- ── the table ──
+
+module _ {table : List ℕ} (h : EffectTable table) {u : CompiledUnit} {i o opcode : ℕ} (a : OpcodeAt u i o opcode) where
+  entry : EntryOf u (a .local) (a .operand) (a .count) opcode (getD table opcode 0)
+  entry = h .entry u (a .local) (a .operand) (a .count) opcode (a .known)
+
+  -- an opcode whose entry is marked looks its effect up
+  pub marked : getD table opcode 0 ≡ 0xFF → looksUp o ≡ true
+  marked k = ap looksUp (sym (a .opcode)) ∙ entry .marked ∙ eq-eqb _ _ k
+
+  -- any other has the table's effect
+  pub in-table : (getD table opcode 0 ≡ 0xFF → ⊥) → InstructionEffectAt u i (EffectResult.Found (getD table opcode 0 / 16) (getD table opcode 0 % 16))
+  in-table k = record { instruction = _; stands = a .is; effect = sym (entry .agrees (entry .marked ∙ ne-eqb _ _ k)) }

@@ -1,7 +1,7 @@
 -- The rule of the table of effects. One test, computed over the whole table with the unit and the operands left open, is carried to each
 -- entry: `every` tests a list, and `at` reads the test off at a place.
-use mathlib.Core.Path.{_≡_}
-use mathlib.Core.Bool.{Bool, true, false, _&&_, _||_}
+use mathlib.Core.Path.{_≡_, refl}
+use mathlib.Core.Bool.{Bool, true, false, _&&_}
 use mathlib.Core.List.{List, [], _∷_}
 use Prim.Native.Nat.{ℕ, zero, suc, _+_, _<_}
 use native.Mathlib.Nat.{add-zero, zero-add, add-suc, suc-add, le-of-suc-le-suc, not-suc-le-zero}
@@ -10,10 +10,9 @@ use lib.Dec.{T, eqb, eqb→eq}
 use lib.ListN.{length, getD}
 use Rattle.definitions.specs.Result.{Result, ok, err}
 use Rattle.definitions.specs.CompiledUnit.{CompiledUnit}
-use Rattle.definitions.specs.StackUsage as defs
-use Rattle.stack_usage_verifier.specs.declared.Effect.{Effect}
+use Rattle.definitions.specs.StackUsage.{Effect, instructionEffect}
 use Rattle.record_views.specs.Records.{instructionOf}
-use Rattle.stack_usage_verifier.specs.Effects.{effectOf, looksUp, pairOf, EffectTable}
+use Rattle.stack_usage_verifier.specs.Effects.{looksUp, pairOf, EffectTable}
 
 and-left : (a b : Bool) → T (a && b) → T a
 and-left true b t = tt
@@ -40,29 +39,39 @@ module _ {A : Type 0} (d : A) (f : ℕ → A → Bool) where
 
 -- ── the test ──
 
-abbrev sameEffect : Result defs.Effect → Effect → Bool
-sameEffect (ok e) p = eqb (e .pops) (p .0) && eqb (e .pushes) (p .1)
+abbrev sameEffect : Result Effect → Effect → Bool
+sameEffect (ok e) p = eqb (e .pops) (p .pops) && eqb (e .pushes) (p .pushes)
 sameEffect (err status) p = false
 
-same-effect : (r : Result defs.Effect) (p : Effect) → T (sameEffect r p) → r ≡ ok (effectOf p)
+same-effect : (r : Result Effect) (p : Effect) → T (sameEffect r p) → r ≡ ok p
 same-effect (ok e) p t =
-    let pops = eqb→eq (e .pops) (p .0) (and-left (eqb (e .pops) (p .0)) (eqb (e .pushes) (p .1)) t) in
-    let pushes = eqb→eq (e .pushes) (p .1) (and-right (eqb (e .pops) (p .0)) (eqb (e .pushes) (p .1)) t) in
+    let pops = eqb→eq (e .pops) (p .pops) (and-left (eqb (e .pops) (p .pops)) (eqb (e .pushes) (p .pushes)) t) in
+    let pushes = eqb→eq (e .pushes) (p .pushes) (and-right (eqb (e .pops) (p .pops)) (eqb (e .pushes) (p .pushes)) t) in
     λ i. ok (record { pops = pops i; pushes = pushes i })
 same-effect (err status) p t = absurd t
 
--- an entry is what the definition says of the opcode at its place, or the opcode looks its effect up
-unfoldable pub agrees : CompiledUnit → ℕ → ℕ → ℕ → ℕ → ℕ → Bool
-agrees u l x n opcode byte = looksUp opcode || sameEffect (defs.instructionEffect u (instructionOf opcode l x n)) (pairOf byte)
+-- the test of an entry, by whether the opcode looks its effect up and whether the byte is the mark
+abbrev passes : Bool → Bool → Result Effect → Effect → Bool
+passes true marked r p = marked
+passes false true r p = false
+passes false false r p = sameEffect r p
 
--- 71 pairs that pass the test hold the effect of each opcode
+-- at each entry, with the unit and the operands left open
+unfoldable pub agrees : CompiledUnit → ℕ → ℕ → ℕ → ℕ → ℕ → Bool
+agrees u l x n opcode byte = passes (looksUp opcode) (eqb byte 0xFF) (instructionEffect u (instructionOf opcode l x n)) (pairOf byte)
+
+-- 71 bytes that pass the test are those of the opcodes
 pub tested : (table : List ℕ) → length table ≡ 71 → ((u : CompiledUnit) (l x n : ℕ) → T (every (agrees u l x n) 0 table)) → EffectTable table
 unfolding agrees
 tested table long t = record {
   long = long;
-  entry = λ opcode h. record { agrees = λ e u l x n. go (looksUp opcode) e _ _ (at 0 (agrees u l x n) table (t u l x n) opcode (omega arith)) };
+  entry = λ u l x n opcode h.
+      let k = passed (looksUp opcode) _ _ _ (at 0 (agrees u l x n) table (t u l x n) opcode (omega arith)) in
+      record { marked = k .0; agrees = k .1 };
 }
   where
-    go : (looks : Bool) → looks ≡ false → (r : Result defs.Effect) (p : Effect) → T (looks || sameEffect r p) → r ≡ ok (effectOf p)
-    go true e r p t = let z : _≡_ {A = ℕ} 0 1 = cc in absurd (omega arith)
-    go false e r p t = same-effect r p t
+    passed : (looks marked : Bool) (r : Result Effect) (p : Effect) → T (passes looks marked r p) → (looks ≡ marked) × (looks ≡ false → r ≡ ok p)
+    passed true true r p t = (refl, λ e. let z : _≡_ {A = ℕ} 0 1 = cc in absurd (omega arith))
+    passed true false r p t = absurd t
+    passed false true r p t = absurd t
+    passed false false r p t = (refl, λ e. same-effect r p t)

@@ -17,6 +17,7 @@ use unit::View;
 use unit_views::SignatureResult;
 use unit_views::StructDefResult;
 ghost use mathlib.Core.Path.{_≡_};
+ghost use mathlib.Core.Bool.{true};
 ghost use Prim.Native.Nat.{_<_, _≤_};
 ghost use Rattle.definitions.specs.Result.{_>>?_};
 ghost use Rattle.definitions.specs.CompiledUnit.{functionHandleAt, functionInstantiationAt};
@@ -24,13 +25,10 @@ ghost use Rattle.definitions.specs.Reader.{compiledUnit};
 ghost use Rattle.definitions.specs.StackUsage.{_⇒_, callEffect, fieldCountAt, fieldCountOfInstantiation, heightAfter, verifyBlock};
 ghost use Rattle.definitions.specs.Verify.{stackUsage};
 ghost use Rattle.unit.specs.Views.{UnitRead};
-ghost use Rattle.code_views.specs.Answers.{blockOf};
+ghost use Rattle.code_views.specs.Answers.{blockOf, opcodeByte};
 ghost use Rattle.handle_views.specs.Answers.{handleOf};
-ghost use Rattle.stack_usage_verifier.specs.Effects.{FixedEffect, EffectTable};
+ghost use Rattle.stack_usage_verifier.specs.Effects.{looksUp, EffectTable};
 ghost use Rattle.stack_usage_verifier.specs.Answers.{effectResult, countResult, heightResult, blockResult, InstructionEffectAt};
-
-// How many values an opcode pops, and how many it then pushes.
-struct Effect(u8, u8);
 
 // The pops and the pushes of an instruction, or the status of a refusal: the Rust's `PartialVMResult<(u64, u64)>`.
 pub enum EffectResult {
@@ -56,12 +54,15 @@ pub enum BlockResult {
     Refused(StatusCode),
 }
 
+// The entry of an opcode whose effect is looked up.
+const LOOKED_UP: u8 = 0xFF;
+
 // The effects of the opcodes 0 to 70, each a pair in one byte: the first hexadecimal digit is how many values it pops, the second how many it
-// then pushes. Those that look theirs up have a pair here that is not read. The table is made once for a call and lent, since a constant is
-// made anew wherever it is named.
+// then pushes. Those that look theirs up are marked. The table is made once for a call and lent, since a constant is made anew wherever it is
+// named.
 const EFFECTS: [u8; 71] = [
     0x10, // Pop
-    0x00, // Ret, not read
+    LOOKED_UP, // Ret
     0x10, // BrTrue
     0x10, // BrFalse
     0x00, // Branch
@@ -77,12 +78,12 @@ const EFFECTS: [u8; 71] = [
     0x01, // CopyLoc
     0x01, // MoveLoc
     0x10, // StLoc
-    0x00, // Call, not read
-    0x00, // CallGeneric, not read
-    0x00, // Pack, not read
-    0x00, // PackGeneric, not read
-    0x00, // Unpack, not read
-    0x00, // UnpackGeneric, not read
+    LOOKED_UP, // Call
+    LOOKED_UP, // CallGeneric
+    LOOKED_UP, // Pack
+    LOOKED_UP, // PackGeneric
+    LOOKED_UP, // Unpack
+    LOOKED_UP, // UnpackGeneric
     0x11, // ReadRef
     0x20, // WriteRef
     0x11, // FreezeRef
@@ -123,13 +124,13 @@ const EFFECTS: [u8; 71] = [
     0x20, // MoveToGeneric
     0x21, // Shl
     0x21, // Shr
-    0x00, // VecPack, not read
+    LOOKED_UP, // VecPack
     0x11, // VecLen
     0x21, // VecImmBorrow
     0x21, // VecMutBorrow
     0x20, // VecPushBack
     0x11, // VecPopBack
-    0x00, // VecUnpack, not read
+    LOOKED_UP, // VecUnpack
     0x30, // VecSwap
 ];
 
@@ -138,15 +139,6 @@ fn effects() -> [u8; 71]
     ensures { λ r. ⌜ EffectTable r ⌝ }
 {
     EFFECTS
-}
-
-// The effect of an opcode that looks nothing up, whatever its operands are.
-fn fixed_effect(table: &[u8], opcode: usize) -> Effect
-    requires { ⌜ EffectTable (now table) × (opcode < 71) ⌝ }
-    ensures { λ r. ⌜ FixedEffect opcode r ⌝ }
-{
-    let pair = table[opcode];
-    Effect(pair / 16, pair % 16)
 }
 
 // ── effects that are looked up ──
@@ -256,13 +248,11 @@ fn unpack_effect(fields: FieldCount) -> EffectResult
     }
 }
 
-// ── the pass ──
-
-// What the i-th instruction pops and pushes.
-fn instruction_effect(table: &[u8], s: &[u8], index: &[u16], view: View, i: usize) -> EffectResult
-    requires { ⌜ EffectTable (now table) ⌝ }
+// What the i-th instruction, one whose effect is looked up, pops and pushes.
+fn looked_up_effect(s: &[u8], index: &[u16], view: View, i: usize) -> EffectResult
     requires { ⌜ UnitRead (now s) (now index) view ⌝ }
     requires { ⌜ i < view .code .count ⌝ }
+    requires { ⌜ looksUp (opcodeByte (now s) (now index) view i) ≡ true ⌝ }
     ensures { λ r. ⌜ ((p : UnitRead (now (s .entry)) (now (index .entry)) view) → InstructionEffectAt (compiledUnit (p .decoded)) i r) ⌝ }
 {
     let instruction = code_views::instruction_at(s, index, view, i);
@@ -292,12 +282,25 @@ fn instruction_effect(table: &[u8], s: &[u8], index: &[u16], view: View, i: usiz
         }
         // VecPack, VecUnpack
         63 => EffectResult::Found(n, 1),
-        69 => EffectResult::Found(1, n),
-        _ => {
-            let effect = fixed_effect(table, opcode as usize);
-            EffectResult::Found(effect.0 as u64, effect.1 as u64)
-        }
+        _ => EffectResult::Found(1, n),
     }
+}
+
+// ── the pass ──
+
+// What the i-th instruction pops and pushes: by the table of effects, and only where its entry is marked by the whole instruction.
+fn instruction_effect(table: &[u8], s: &[u8], index: &[u16], view: View, i: usize) -> EffectResult
+    requires { ⌜ EffectTable (now table) ⌝ }
+    requires { ⌜ UnitRead (now s) (now index) view ⌝ }
+    requires { ⌜ i < view .code .count ⌝ }
+    ensures { λ r. ⌜ ((p : UnitRead (now (s .entry)) (now (index .entry)) view) → InstructionEffectAt (compiledUnit (p .decoded)) i r) ⌝ }
+{
+    let opcode = code_views::opcode_at(s, index, view, i) as usize;
+    let pair = table[opcode];
+    if pair == LOOKED_UP {
+        return looked_up_effect(s, index, view, i);
+    }
+    EffectResult::Found((pair / 16) as u64, (pair % 16) as u64)
 }
 
 // The height after an effect: pops past the height are refused first, then a sum that no u64 holds.
