@@ -49,9 +49,11 @@ pub record PlacesIn (s : List ℕ) (ts : Signature) (out : List ℕ) (n : ℕ) :
   pub fits : n ≤ length out
   pub consecutive : Consecutive s (take n out) ts
 
+-- the same of the parameters
 pub record ParameterPlaces (s index : List ℕ) (view : View) (out : List ℕ) (n : ℕ) : Type 0 where
   pub are : (p : UnitRead s index view) → PlacesIn s (compiledUnit (p .decoded) .function .parameters) out n
 
+-- and of the other locals
 pub record OtherPlaces (s index : List ℕ) (view : View) (out : List ℕ) (n : ℕ) : Type 0 where
   pub are : (p : UnitRead s index view) → PlacesIn s (compiledUnit (p .decoded) .function .locals) out n
 
@@ -60,6 +62,7 @@ abbrev pub placeAlone : LocalResult → TypeResult
 placeAlone (LocalResult.Found x e) = TypeResult.Found x
 placeAlone (LocalResult.Refused v) = TypeResult.Refused v
 
+-- the type that was found ends where r says
 abbrev pub endsWhere : List ℕ → LocalResult → Type 0
 endsWhere s (LocalResult.Found x e) = EndOfType s x e
 endsWhere s (LocalResult.Refused v) = Unit {0}

@@ -35,6 +35,7 @@ pub record Passed (s : List ℕ) (at n : ℕ) (ts : SignatureTokens) (out : List
   pub rest : Rest s at n ts p i
   pub before : (ps : List ℕ) → Consecutive s (p ∷ ps) (listOf (rest .others)) → Consecutive s (take i out ++ p ∷ ps) (listOf ts)
 
+-- the walk at place p: i of the n types are passed
 pub record Placing (s : List ℕ) (at n : ℕ) (out₀ out : List ℕ) (p i : ℕ) : Type 0 where
   pub long : length out ≡ length out₀
   pub most : i ≤ n
