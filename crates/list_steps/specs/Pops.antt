@@ -12,6 +12,7 @@ use Rattle.definitions.specs.Result.{Result, ok, err}
 use Rattle.definitions.specs.SignatureToken.{SignatureToken, Signature, same}
 use Rattle.definitions.specs.Machine.{_>>=_, look, check, popOne, popEach, run}
 use Rattle.definitions.specs.Places.{TypeAt, Standing, none, more}
+use Rattle.record_views.specs.declared.TypeList.{TypeList}
 use Rattle.signature_token.specs.Same.{Spans, SameAt}
 use Rattle.substitution_comparison.specs.declared.Comparison.{Comparison}
 use Rattle.substitution_comparison.specs.declared.Comparison.the-variants.{Same, Differs, Past}
@@ -20,7 +21,7 @@ use Rattle.substitution_comparison.specs.Compare.{ComparedAt, compared}
 use Rattle.substitution.specs.Past.{instantiate-past}
 use Rattle.type_stack.specs.Held.{Stacked, Holds}
 use Rattle.type_stack.specs.Tops.{TopOf, topped}
-use Rattle.type_stack.specs.Stepping.{StepsTo, look-then, look-bad, check-last, check-last-bad, pop-then, and-stacked}
+use Rattle.type_stack.specs.Stepping.{StepsTo, done-here, look-then, look-bad, check-last, check-last-bad, pop-then, and-stacked}
 use Rattle.type_stack.specs.Leading.{Leads, leads-here, leads-on, leads-then, leads-done}
 use Rattle.type_stack.specs.Listed.{pop-each, pop-each-bad}
 use Rattle.type_stack.specs.declared.Stepped.{Stepped}
@@ -30,7 +31,7 @@ use Rattle.type_stack.specs.declared.Top.the-variants.{Entry}
 use Rattle.operand_steps.specs.Operands.{span, top-room}
 use Rattle.list_steps.specs.declared.Form.{Form}
 use Rattle.list_steps.specs.declared.Form.the-variants.{Written, Instantiated}
-use Rattle.list_steps.specs.Forms.{formed, FormComparedAt}
+use Rattle.list_steps.specs.Forms.{formed, FormComparedAt, PopsEach}
 
 -- ── a comparison ──
 
@@ -152,3 +153,13 @@ module _ {form : Form} {s places args : List ℕ} {y : StatusCode} {a : List ℕ
 
         pub popping-bad : {z : StatusCode} → r ≡ Refused z → PopsPlaces form s places args y a w (Refused z)
         popping-bad j p q = leads-then (popping-at p q) (pop-each-bad y _ _ _ (popped p q) j)
+
+-- a list of no types
+pub pops-none :
+    {form : Form} {s args a : List ℕ} {list : TypeList} {y : StatusCode} {w : ℕ} → list .count ≡ 0 → PopsEach form s list args y a w (Next w)
+unfolding popEach
+pops-none {form} {a = a} {y = y} {w = w} e = record { steps = λ p q. go (p .types) (formed form (q .subst)) (omega (arith, p .are .counted)) }
+  where
+    go : (ts : Signature) (f : SignatureToken → Result SignatureToken) → length ts ≡ 0 → StepsTo (popEach y f (reverse ts)) a w a (Next w)
+    go [] f z = done-here
+    go (t ∷ ts) f z = absurd (omega arith)

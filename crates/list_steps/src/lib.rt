@@ -136,7 +136,30 @@ fn pop_places(
     Stepped::Next(below)
 }
 
-// Pops an operand for each type of the list, the last first, and compares it with that type. The status is that of a mismatch.
+// The work of `pop_each`: `places` has room for the places of the list's types.
+fn pop_with(
+    area: &[u8],
+    weight: usize,
+    s: &[u8],
+    list: TypeList,
+    form: Form,
+    args: &[u16],
+    status: StatusCode,
+    places: &mut [u16],
+) -> Stepped
+    requires { ⌜ Stacked (now area) weight ⌝ }
+    requires { ⌜ TypesIn (now s) list × (length (now s) ≤ 65535) ⌝ }
+    requires { ⌜ Arguments (now s) (now args) ⌝ }
+    requires { ⌜ list .count ≤ length (now places) ⌝ }
+    ensures { λ r. ⌜ PopsEach form (now (s .entry)) list (now (args .entry)) status (now (area .entry)) weight r ⌝ }
+{
+    let n = list.count;
+    type_places::type_places(s, list.at, n, places);
+    pop_places(area, weight, s, &places[..n], form, args, status)
+}
+
+// Pops an operand for each type of the list, the last first, and compares it with that type. The status is that of a mismatch. A table of
+// places is zeroed before it is filled, so a short list, as most are, takes a short table, and an empty one none.
 pub fn pop_each(
     area: &[u8],
     weight: usize,
@@ -152,9 +175,15 @@ pub fn pop_each(
     ensures { λ r. ⌜ PopsEach form (now (s .entry)) list (now (args .entry)) status (now (area .entry)) weight r ⌝ }
 {
     let n = list.count;
+    if n == 0 {
+        return Stepped::Next(weight);
+    }
+    if n <= 16 {
+        let mut few = [0u16; 16];
+        return pop_with(area, weight, s, list, form, args, status, &mut few);
+    }
     let mut places = [0u16; 255];
-    type_places::type_places(s, list.at, n, &mut places);
-    pop_places(area, weight, s, &places[..n], form, args, status)
+    pop_with(area, weight, s, list, form, args, status, &mut places)
 }
 
 // `Ret`.

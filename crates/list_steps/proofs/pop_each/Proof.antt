@@ -1,10 +1,7 @@
--- The places of the list's types are found, and an operand popped for each.
-use mathlib.Core.Path.{sym}
-use native.Mathlib.Omega.{arith}
-use lib.Seq.{length-take-le}
+-- An empty list pops nothing; the others take a table that has room for their places.
 use borrow.Author.Needs.{needs}
-use Rattle.record_views.specs.Reread.{types-at}
-use Rattle.list_steps.specs.Made.{list-small, arguments-of}
+use Rattle.list_steps.specs.Made.{list-small}
+use Rattle.list_steps.specs.Pops.{pops-none}
 use Rattle.list_steps.proofs.pop_each.Statement.{statement}
 use Rattle.list_steps.proofs.pop_each.Tie as tie
 
@@ -12,9 +9,10 @@ pub pop-each-spec : {M : Type 1} → statement M
 pop-each-spec =
     tie.close
     (tie.spec
+    (λ c. pops-none (c .if1 .taken))
     (λ c. search needs)
-    (λ c κs. (types-at (c .before .before .before .before .pre .1 .0 .0), (list-small (c .before .before .before .before .pre .1 .0 .0), omega (arith, c .before .before .before .before .pre .1 .0 .1))))
+    (λ c κs. search needs)
     (λ c. search needs)
-    (λ c. sym (length-take-le _ _ (omega (arith, list-small (c .before .before .before .before .before .before .before .pre .1 .0 .0)))))
-    (λ c κs. (c .before .before .before .before .before .before .before .pre .0, (arguments-of (c .before .before .before .before .before .before .before .pre .1 .0 .0) (c .before .before .type-places .ensures), c .before .before .before .before .before .before .before .pre .1 .1)))
-    (λ c. record { steps = λ p q. c .pop-places .ensures (arguments-of p (c .before .before .before .type-places .ensures)) q }))
+    (λ c. search needs)
+    (λ c κs. let k = c .before .before .before .before .before .before .pre in (k .0, (k .1 .0, (k .1 .1, list-small (k .1 .0 .0)))))
+    (λ c. search needs))
