@@ -1,10 +1,10 @@
 -- Bytes stored one after the other, and bytes compared: the laws of a copy, of a comparison, and of two that follow one another.
-use mathlib.Core.Path.{_≡_, sym, ap, _∙_}
+use mathlib.Core.Path.{_≡_, refl, sym, ap, _∙_}
 use mathlib.Core.List.{List, [], _∷_, _++_, append-assoc}
 use mathlib.Core.Bool.{Bool, true, false}
 use Prim.Native.Nat.{ℕ, suc, _+_, _-_, _≤_, _<_}
 use native.Mathlib.Omega.{arith}
-use native.Mathlib.Nat.{zero-add}
+use native.Mathlib.Nat.{zero-add, add-zero}
 use native.Mathlib.Numerals.{add-one}
 use lib.ListN.{length, take, drop, set, getD, length-drop, take-append-drop}
 use lib.Seq.{sets, sets-eq, length-sets, take-suc, ext-getD, getD-take, getD-drop, drop-drop, drop-append-seam, length-take-le}
@@ -53,6 +53,10 @@ copied-more d w s from i l =
     let e : length (take i (drop from s)) ≡ i = part-long s from i (omega arith) in
     rw (add-one i, take-suc (drop from s) i 0 k, ← sets-append d w (take i (drop from s)) (getD (drop from s) i 0 ∷ []), e, getD-drop from s i 0)
 
+-- a copy of one byte
+pub byte-copied : (d : List ℕ) (w : ℕ) (s : List ℕ) (from : ℕ) → from < length s → Copied d w s from 1 (set d w (getD s from 0)) (w + 1)
+byte-copied d w s from l = record { reached = refl; now = rw (add-zero w, add-zero from) at (copied-more d w s from 0 (omega arith)) }
+
 -- ── comparisons ──
 
 -- r says whether P
@@ -84,3 +88,11 @@ module _ {a : List ℕ} {x : ℕ} {b : List ℕ} {y n : ℕ} (f : Fits b y n x (
   bytes-differ i k d =
       let z = part-long b y n (f .there) in
       record { tells = λ h. d (at-getD h i (omega arith) ∙ getD-take n (drop y b) i 0 k ∙ getD-drop y b i 0) }
+
+-- the same of one byte
+module _ {a : List ℕ} {x : ℕ} {b : List ℕ} {y : ℕ} (f : Fits b y 1 x (length a)) where
+  pub byte-same : getD a x 0 ≡ getD b y 0 → SameBytes a x b y 1 true
+  byte-same e = bytes-same f {i = 1} (omega arith) (λ k l. let z : k ≡ 0 = omega arith in rw (z, add-zero x, add-zero y) e)
+
+  pub byte-differs : (getD a x 0 ≡ getD b y 0 → ⊥) → SameBytes a x b y 1 false
+  byte-differs d = bytes-differ f 0 (omega arith) (rw (add-zero x, add-zero y) d)

@@ -19,8 +19,8 @@ use Rattle.type_tests.proofs.Referent.{the-type}
 use Rattle.type_tests.specs.declared.Referent.{Referent}
 use Rattle.type_tests.specs.declared.Referent.the-variants.{Reference, MutableReference, Value}
 use Rattle.signature_token.specs.Token.{tokenOf, encode-pos}
-use Rattle.signature_token.specs.TokenLaws.{IsLeaf}
-use Rattle.type_tests.specs.Kinds.{ReferentAt, LeafAt, referentOf, leaf-bytes}
+use Rattle.signature_token.specs.TokenLaws.{IsLeaf, leaf-bytes}
+use Rattle.type_tests.specs.Kinds.{ReferentAt, LeafAt, referentOf}
 use Rattle.signature_token.specs.Same.{Spans, SameAt, same-is}
 use Rattle.type_stack.specs.Held.{Stacked, Here, Part, part}
 use Rattle.type_stack.specs.Tops.{TopOf, TopTwoOf, Topped, topped, topped-two}

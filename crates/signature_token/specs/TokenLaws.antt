@@ -169,18 +169,26 @@ none-is (t ∷ᵗ ts) e = absurd (omega arith)
 
 -- ── the same, of the type that stands where `token_at` was asked ──
 
-pub leaf-long : {t : SignatureToken} {b : ℕ} → IsLeaf t b → length (encode t) ≡ 1
+-- a leaf is its command
+pub leaf-bytes : {t : SignatureToken} {b : ℕ} → IsLeaf t b → encode t ≡ b ∷ []
 unfolding encode
-leaf-long is-bool = refl
-leaf-long is-u8 = refl
-leaf-long is-u64 = refl
-leaf-long is-u128 = refl
-leaf-long is-address = refl
-leaf-long is-signer = refl
+leaf-bytes is-bool = refl
+leaf-bytes is-u8 = refl
+leaf-bytes is-u64 = refl
+leaf-bytes is-u128 = refl
+leaf-bytes is-address = refl
+leaf-bytes is-signer = refl
+
+pub leaf-long : {t : SignatureToken} {b : ℕ} → IsLeaf t b → length (encode t) ≡ 1
+leaf-long k = ap length (leaf-bytes k)
 
 module _ {s : List ℕ} {at : ℕ} {r : Token} (w : TokenAt s at r) (p : TypeAt s at) where
   pub leaf-at : {b : ℕ} → r ≡ Leaf b → IsLeaf (p .type) b
   leaf-at e = leaf-is (p .stands) (sym (w p) ∙ e)
+
+  -- the byte where it stands is its command
+  pub leaf-byte : {b : ℕ} → r ≡ Leaf b → getD s at 0 ≡ b
+  leaf-byte e = at-byte (rw (leaf-bytes (leaf-at e)) at (p .stands))
 
   pub wrapped-at : {v : Wrapper} {x : ℕ} → r ≡ Wrapped v x → IsWrapped s at (p .type) v x
   wrapped-at e = wrapped-is (p .stands) (sym (w p) ∙ e)

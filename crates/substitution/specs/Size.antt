@@ -159,6 +159,10 @@ parameter-size {ty} {at} {r} {args} {places} {len} w e f = record {
   is = λ p a. f .is a ∙ ap₂ (sizeFrom len) (parameter-end w e p) (sym (parameter-filled w p (a .subst) e));
 }
 
+-- a leaf by itself is one byte
+pub leaf-alone : {ty : List ℕ} {at : ℕ} {r : Token} {args places : List ℕ} {b : ℕ} → TokenAt ty at r → r ≡ Leaf b → SizeAt ty at args places (Bytes (at + 1) 1)
+leaf-alone w e = leaf-size w e (record { is = refl })
+
 -- ── arguments ──
 
 module _ {args : List ℕ} {from len : ℕ} where

@@ -97,13 +97,21 @@ fn size_of_types(ty: &[u8], at: usize, n: usize, args: &[u8], places: &[u16], le
     Size::Bytes { next: p, len: sum }
 }
 
-// `instantiate`: the size of the type at `at` of ty, its parameters replaced.
+// `instantiate`: the size of the type at `at` of ty, its parameters replaced. A leaf has its own way, since most types are leaves: it
+// saves the call into the walk.
 pub fn instantiated_size(ty: &[u8], at: usize, args: &[u8], places: &[u16]) -> Size
     requires { ⌜ TypeAt (now ty) at ⌝ }
     requires { ⌜ Arguments (now args) (now places) ⌝ }
     ensures { λ r. ⌜ SizeAt (now (ty .entry)) at (now (args .entry)) (now (places .entry)) r ⌝ }
 {
-    size_of_type(ty, at, args, places, 0)
+    let token = signature_token::token_at(ty, at);
+    let Token::Leaf(_) = token else {
+        return size_of_type(ty, at, args, places, 0);
+    };
+    Size::Bytes {
+        next: at + 1,
+        len: 1,
+    }
 }
 
 // The same of the n types at `at`.

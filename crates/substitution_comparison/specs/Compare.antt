@@ -18,6 +18,7 @@ use Rattle.signature_token.specs.declared.Wrapper.{Wrapper}
 use Rattle.signature_token.specs.declared.Token.{Token}
 use Rattle.signature_token.specs.declared.Token.the-variants.{Leaf, Wrapped, Struct, StructInstantiation, TypeParameter}
 use Rattle.signature_token.specs.Token.{TokenAt}
+use Rattle.signature_token.specs.TokenLaws.{leaf-byte}
 use Rattle.signature_token.specs.Ends.{type-room, leaf-end, struct-end, parameter-end}
 use Rattle.signature_token.specs.Same.{Spans, span-within, same-yes, same-no}
 use Rattle.substitution.specs.declared.Size.the-variants.{Bytes, Past}
@@ -25,10 +26,10 @@ use Rattle.substitution_comparison.specs.declared.Match.{Match}
 use Rattle.substitution_comparison.specs.declared.Match.the-variants.{Upto, No}
 use Rattle.substitution_comparison.specs.declared.Comparison.{Comparison}
 use Rattle.substitution_comparison.specs.declared.Comparison.the-variants as comparison
-use Rattle.byte_parts.specs.Bytes.{SameBytes, at-append, part-long}
+use Rattle.byte_parts.specs.Bytes.{Fits, SameBytes, at-append, part-long, byte-same, byte-differs}
 use Rattle.substitution.specs.Instantiate.{Arguments, filled, instantiated}
 use Rattle.substitution.specs.Filling.{Filling, Fillings, Room, Rooms, Whole, Below, leaf-whole, struct-whole, wrapped-below, instantiation-below, parameter-replaced, Gone, gone-start, gone-next, gone-end, gone-bytes, turn-filling, turn-room, turn-fills}
-use Rattle.substitution.specs.Size.{SizeAt, past, size-filling, size-long}
+use Rattle.substitution.specs.Size.{SizeAt, past, size-filling, size-long, leaf-alone}
 
 -- ── the words ──
 
@@ -273,3 +274,25 @@ module _ {s : List ℕ} {x len : ℕ} {ty : List ℕ} {at : ℕ} {args places : 
             let u = instantiated (q .type) (a .subst) (f .is) in
             compared-differs (p .type) (u .type) (u .here) (λ k. m .is f .no refl (rw (u .is, ← k) (p .stands)));
       }
+
+-- a leaf and a type of one byte have their bytes
+leaf-within :
+    {s : List ℕ} {x len : ℕ} {ty : List ℕ} {at : ℕ} {r : Token} {b : ℕ} → TokenAt ty at r → r ≡ Leaf b → len ≡ 1 → Spans s x len → TypeAt ty at →
+    Fits ty at 1 x (length s)
+leaf-within t e l p q = record { there = omega (arith, leaf-end t e q, type-room q); free = omega (arith, span-within p) }
+
+-- a leaf is the type of len bytes at x of s where that is one byte, the leaf's command
+module _ {s : List ℕ} {x len : ℕ} {ty : List ℕ} {at : ℕ} {args places : List ℕ} {r : Token} {b : ℕ} (t : TokenAt ty at r) (e : r ≡ Leaf b) where
+  -- another length
+  pub leaf-longer : len ≤ 65535 → (len ≡ 1 → ⊥) → ComparedAt s x len ty at args places comparison.Differs
+  leaf-longer l d = length-compared l (leaf-alone t e) (λ k. d (sym k))
+
+  -- one byte against the command
+  module _ (l : len ≡ 1) (p : Spans s x len) (q : TypeAt ty at) where
+    pub leaf-same : getD s x 0 ≡ b → ComparedAt s x len ty at args places comparison.Same
+    leaf-same k =
+        match-compared (omega arith) (leaf-alone t e) (sym l) (leaf-matched t e (part-yes (byte-same (leaf-within t e l p q) (k ∙ sym (leaf-byte t q e)))))
+
+    pub leaf-differs : (getD s x 0 ≡ b → ⊥) → ComparedAt s x len ty at args places comparison.Differs
+    leaf-differs d =
+        mismatch-compared (omega arith) (leaf-alone t e) (sym l) (leaf-matched t e (part-no (byte-differs (leaf-within t e l p q) (λ k. d (k ∙ leaf-byte t q e)))))

@@ -96,9 +96,8 @@ fn match_types(
     Match::Upto { next: p, end: e }
 }
 
-// `instantiate` and `==`: whether the type of len bytes at x of s is the type at `at` of ty, its parameters replaced. The sizes are
-// compared first: that walk tests the number of every parameter.
-pub fn compare_instantiated(
+// `compare_instantiated` by walks. The sizes are compared first: that walk tests the number of every parameter.
+fn compare_walked(
     s: &[u8],
     x: usize,
     len: usize,
@@ -124,5 +123,35 @@ pub fn compare_instantiated(
     let Match::Upto { next: _, end: _ } = found else {
         return Comparison::Differs;
     };
+    Comparison::Same
+}
+
+// `instantiate` and `==`: whether the type of len bytes at x of s is the type at `at` of ty, its parameters replaced. A leaf has its own
+// way, since most types are leaves: it saves the calls into the walks.
+pub fn compare_instantiated(
+    s: &[u8],
+    x: usize,
+    len: usize,
+    ty: &[u8],
+    at: usize,
+    args: &[u8],
+    places: &[u16],
+) -> Comparison
+    requires { ⌜ Spans (now s) x len ⌝ }
+    requires { ⌜ len ≤ 65535 ⌝ }
+    requires { ⌜ TypeAt (now ty) at ⌝ }
+    requires { ⌜ Arguments (now args) (now places) ⌝ }
+    ensures { λ r. ⌜ ComparedAt (now (s .entry)) x len (now (ty .entry)) at (now (args .entry)) (now (places .entry)) r ⌝ }
+{
+    let token = signature_token::token_at(ty, at);
+    let Token::Leaf(command) = token else {
+        return compare_walked(s, x, len, ty, at, args, places);
+    };
+    if len != 1 {
+        return Comparison::Differs;
+    }
+    if s[x] != command {
+        return Comparison::Differs;
+    }
     Comparison::Same
 }

@@ -3,7 +3,7 @@ use mathlib.Core.Path.{_≡_, refl, sym, ap, _∙_}
 use mathlib.Core.List.{List, _++_}
 use Prim.Native.Nat.{ℕ, _+_, _-_, _≤_, _<_}
 use native.Mathlib.Omega.{arith}
-use lib.ListN.{length, take, drop, getD, length-append}
+use lib.ListN.{length, take, drop, set, getD, length-append}
 use lib.Seq.{sets, length-sets}
 use Rattle.definitions.specs.SignatureToken.{encode, encodeAll}
 use Rattle.definitions.specs.Places.{TypeAt, EndOfType}
@@ -12,10 +12,11 @@ use Rattle.file_format.specs.declared.StructHandleIndex.{StructHandleIndex}
 use Rattle.signature_token.specs.declared.Wrapper.{Wrapper}
 use Rattle.signature_token.specs.declared.Token.{Token}
 use Rattle.signature_token.specs.declared.Token.the-variants.{Leaf, Wrapped, Struct, StructInstantiation, TypeParameter}
-use Rattle.signature_token.specs.Token.{TokenAt}
+use Rattle.signature_token.specs.Token.{TokenAt, at-some}
+use Rattle.signature_token.specs.TokenLaws.{leaf-byte}
 use Rattle.signature_token.specs.Ends.{leaf-end, struct-end, parameter-end}
 use Rattle.substitution_writer.specs.declared.Reached.{Reached}
-use Rattle.byte_parts.specs.Bytes.{over, sets-over, sets-append, Copied, part-long}
+use Rattle.byte_parts.specs.Bytes.{over, sets-over, sets-append, Copied, byte-copied, part-long}
 use Rattle.substitution.specs.Filling.{Filling, Fillings, Room, Rooms, Whole, Below, leaf-whole, struct-whole, wrapped-below, instantiation-below, parameter-replaced, Gone, gone-start, gone-next, gone-end, gone-bytes, turn-filling, turn-room}
 
 -- ── the words ──
@@ -159,3 +160,9 @@ pub wrote-at : {ty : List ℕ} {at : ℕ} {args places d d′ : List ℕ} {r : R
 wrote-at {ty} {at} {args} {places} {d} v = record {
   is = λ m. v .is (m .filling) .now ∙ sets-over d (m .filling .bytes) (omega (arith, m .fits));
 }
+
+-- a leaf at the front of a slice: its command is stored there
+pub leaf-at-front :
+    {ty : List ℕ} {at : ℕ} {r : Token} {args places d : List ℕ} {b : ℕ} → TokenAt ty at r → TypeAt ty at → r ≡ Leaf b →
+    WroteAt ty at args places d (set d 0 b)
+leaf-at-front {ty} {at} {r} {args} {places} {d} t p e = wrote-at (leaf-wrote t e (rw (leaf-byte t p e) at (byte-copied d 0 ty at (at-some p))))

@@ -81,10 +81,16 @@ fn write_types(
     Reached { next: p, end: e }
 }
 
-// `instantiate`: writes the type at `at` of ty, its parameters replaced, to the front of out.
+// `instantiate`: writes the type at `at` of ty, its parameters replaced, to the front of out. A leaf has its own way, since most types are
+// leaves: it saves the call into the walk.
 pub fn instantiate_into(out: &mut [u8], ty: &[u8], at: usize, args: &[u8], places: &[u16])
     requires { ⌜ Room (now ty) at (now args) (now places) 0 (length (now out)) ⌝ }
     ensures { λ _. ⌜ WroteAt (now (ty .entry)) at (now (args .entry)) (now (places .entry)) (now (out .entry)) (now (out .exit)) ⌝ }
 {
-    write_type(out, 0, ty, at, args, places);
+    let token = signature_token::token_at(ty, at);
+    let Token::Leaf(command) = token else {
+        write_type(out, 0, ty, at, args, places);
+        return;
+    };
+    out[0] = command;
 }

@@ -6,7 +6,7 @@ use Prim.Native.Nat.{ℕ}
 use native.Mathlib.Decide.{ℕ-discrete}
 use borrow.Author.Tests.{eq-eqb, ne-eqb}
 use lib.Dec.{leb, ltb, eqb}
-use Rattle.definitions.specs.SignatureToken.{SignatureToken, Bool′, U8, U64, U128, Address, Signer, Vector as VectorOf, Struct as StructOf, StructInstantiation as InstantiationOf, Reference as ReferenceOf, MutableReference as MutableReferenceOf, TypeParameter as ParameterOf, encode, same, outer, isInteger}
+use Rattle.definitions.specs.SignatureToken.{SignatureToken, Bool′, U8, U64, U128, Address, Signer, Vector as VectorOf, Struct as StructOf, StructInstantiation as InstantiationOf, Reference as ReferenceOf, MutableReference as MutableReferenceOf, TypeParameter as ParameterOf, same, outer, isInteger}
 use Rattle.definitions.specs.Places.{TypeAt}
 use Rattle.signature_token.specs.declared.Wrapper.{Wrapper}
 use Rattle.signature_token.specs.declared.Wrapper.the-variants as wrapper
@@ -16,7 +16,7 @@ use Rattle.type_tests.specs.declared.Referent.{Referent}
 use Rattle.type_tests.specs.declared.Referent.the-variants.{Reference, MutableReference, Value}
 use Rattle.signature_token.specs.Token.{tokenOf, TokenAt}
 use Rattle.theorems.specs.Bytes.{equal-bytes}
-use Rattle.signature_token.specs.TokenLaws.{IsLeaf, is-bool, is-u8, is-u64, is-u128, is-address, is-signer, leaf-at}
+use Rattle.signature_token.specs.TokenLaws.{IsLeaf, is-bool, is-u8, is-u64, is-u128, is-address, is-signer, leaf-bytes, leaf-at}
 use Rattle.signature_token.specs.Same.{same-yes, same-no}
 
 -- ── the words ──
@@ -47,7 +47,7 @@ LeafAt s at command r = (p : TypeAt s at) (u : SignatureToken) → IsLeaf u comm
 
 -- ── the laws ──
 
--- a leaf taken apart shows its command, which is its own
+-- a leaf taken apart shows its command
 leaf-token : {u : SignatureToken} {b : ℕ} (at : ℕ) → IsLeaf u b → tokenOf u at ≡ Leaf b
 unfolding tokenOf
 leaf-token at is-bool = refl
@@ -56,15 +56,6 @@ leaf-token at is-u64 = refl
 leaf-token at is-u128 = refl
 leaf-token at is-address = refl
 leaf-token at is-signer = refl
-
-pub leaf-bytes : {u : SignatureToken} {b : ℕ} → IsLeaf u b → encode u ≡ b ∷ []
-unfolding encode
-leaf-bytes is-bool = refl
-leaf-bytes is-u8 = refl
-leaf-bytes is-u64 = refl
-leaf-bytes is-u128 = refl
-leaf-bytes is-address = refl
-leaf-bytes is-signer = refl
 
 -- whether a type taken apart is an integer: its command is 02, 03 or 04
 abbrev pub integerOf : Token → Bool

@@ -1,12 +1,10 @@
--- The sizes are compared first, and bytes only where they are the same.
-use Rattle.substitution_comparison.specs.Compare.{past-compared, length-compared, span-room, match-compared, mismatch-compared}
+-- A leaf is compared by its one byte, and any other type by the walks.
+use native.Mathlib.Omega.{arith}
 use borrow.Author.Needs.{needs}
+use Rattle.signature_token.specs.Same.{span-within}
+use Rattle.substitution_comparison.specs.Compare.{leaf-longer, leaf-same, leaf-differs}
 use Rattle.substitution_comparison.proofs.compare_instantiated.Statement.{statement}
 use Rattle.substitution_comparison.proofs.compare_instantiated.Tie as tie
-
--- src/lib.rt:358:9
-enum-told : tie.Need-enum-told
-enum-told c = search needs
 
 pub compare-instantiated-spec : {M : Type 1} → statement M
 compare-instantiated-spec =
@@ -14,11 +12,9 @@ compare-instantiated-spec =
     (tie.spec
     (λ c κs. search needs)
     (λ c. search needs)
-    enum-told
-    (λ c. past-compared (rw (c .enum-told .given .1) at (c .before .before .instantiated-size .ensures)))
-    (λ c. length-compared (c .before .before .before .before .before .before .before .before .before .pre .1 .0) (rw (c .before .before .size .given .1) at (c .before .before .before .before .instantiated-size .ensures)) (c .if1 .taken))
-    (λ c κs. let q = c .before .before .before .before .before .before .before .before .before .pre in span-room (q .1 .0) (rw (c .before .before .size .given .1) at (c .before .before .before .before .instantiated-size .ensures)) (c .if1 .left) (q .0) (q .1 .1 .0) (q .1 .1 .1))
+    (λ c κs. search needs)
     (λ c. search needs)
-    (λ c. search needs)
-    (λ c. mismatch-compared (c .before .before .before .before .before .before .before .before .before .before .before .before .pre .1 .0) (rw (c .before .before .before .before .before .size .given .1) at (c .before .before .before .before .before .before .before .instantiated-size .ensures)) (c .before .before .before .if1 .left) (rw (c .enum-told3 .given .1) at (c .before .before .match-type .ensures)))
-    (λ c. match-compared (c .before .before .before .before .before .before .before .before .before .before .before .before .pre .1 .0) (rw (c .before .before .before .before .before .size .given .1) at (c .before .before .before .before .before .before .before .instantiated-size .ensures)) (c .before .before .before .if1 .left) (rw (c .enum-told2 .given .1) at (c .before .before .match-type .ensures))))
+    (λ c. leaf-longer (c .before .before .before .before .token-at .ensures) (c .before .before .token .given .1) (c .before .before .before .before .before .before .before .before .before .pre .1 .0) (c .if1 .taken))
+    (λ c. omega (arith, span-within (c .before .before .before .before .before .before .before .before .before .before .pre .0)))
+    (λ c. let q = c .before .before .before .before .before .before .before .before .before .before .before .pre in leaf-differs (c .before .before .before .before .before .before .token-at .ensures) (c .before .before .before .before .token .given .1) (c .before .before .if1 .left) (q .0) (q .1 .1 .0) (c .if2 .taken))
+    (λ c. let q = c .before .before .before .before .before .before .before .before .before .before .before .pre in leaf-same (c .before .before .before .before .before .before .token-at .ensures) (c .before .before .before .before .token .given .1) (c .before .before .if1 .left) (q .0) (q .1 .1 .0) (c .if2 .left)))
