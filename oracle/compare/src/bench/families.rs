@@ -24,6 +24,8 @@ pub fn families() -> Vec<Family> {
             cases: vec![Case { unit: unpacks().write(), area: LONGEST_AREA }],
         },
         family("3,000 blocks that all overlap", vec![overlapping()]),
+        family("2,000 Call of u64 to u64", vec![short_calls()]),
+        family("1,500 Pack and Unpack of two fields", vec![packs()]),
         family("100 bytes of Nops", vec![nops(100)]),
         family("32,768 bytes of Nops", vec![nops(LONGEST_UNIT)]),
         family("32,768 bytes of minimal records", vec![minimal_records()]),
@@ -92,6 +94,36 @@ fn overlapping() -> Unit {
     };
     unit.blocks = (0..BLOCKS).map(block).collect();
     unit
+}
+
+/// A u64 loaded, handed to a function that returns one, and popped.
+fn short_calls() -> Unit {
+    let tables = Unit {
+        signatures: vec![vec![], vec![Type::U64]],
+        function_handles: vec![FunctionHandle { parameters: 1, returns: 1 }],
+        ..Unit::default()
+    };
+    let call = [plain(Opcode::LdU64), indexed(Opcode::Call, 0), plain(Opcode::Pop)];
+    in_one_block(tables, call.repeat(2_000))
+}
+
+/// A struct of a u64 and a bool, put together, taken apart, and its fields popped.
+fn packs() -> Unit {
+    let tables = Unit {
+        struct_handles: vec![StructHandle { abilities: 7, phantom: vec![] }],
+        signatures: vec![vec![]],
+        struct_definitions: vec![StructDefinition { handle: 0, fields: Some(vec![Type::U64, Type::Bool]) }],
+        ..Unit::default()
+    };
+    let pack = [
+        plain(Opcode::LdU64),
+        plain(Opcode::LdTrue),
+        indexed(Opcode::Pack, 0),
+        indexed(Opcode::Unpack, 0),
+        plain(Opcode::Pop),
+        plain(Opcode::Pop),
+    ];
+    in_one_block(tables, pack.repeat(1_500))
 }
 
 /// A unit of that many bytes, all Nops but for what every unit has.
