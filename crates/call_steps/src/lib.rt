@@ -44,7 +44,8 @@ fn call(
                     match unit_views::signature_at(s, index, view, handle.return_) {
                         SignatureResult::Refused(status) => Stepped::Refused(status),
                         SignatureResult::Found(returns) => {
-                            list_steps::push_each(area, below, s, returns, args)
+                            let pushed = list_steps::push_each(area, below, s, returns, args);
+                            type_stack::rebuilt(pushed)
                         }
                     }
                 }

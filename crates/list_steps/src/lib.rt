@@ -194,7 +194,8 @@ pub fn ret_step(area: &[u8], weight: usize, s: &[u8], index: &[u16], view: View)
 {
     let returns = function_views::returns(s, index, view);
     let status = StatusCode::RET_TYPE_MISMATCH_ERROR;
-    pop_each(area, weight, s, returns, Form::Written, &index[..0], status)
+    let popped = pop_each(area, weight, s, returns, Form::Written, &index[..0], status);
+    type_stack::rebuilt(popped)
 }
 
 // Whether `instantiate` makes a type of each of the list.

@@ -85,7 +85,10 @@ fn unpack_fields(
     type_places::type_places(s, type_args.at, n, &mut args);
     match list_steps::instantiates_each(s, fields, &args[..n]) {
         Instantiates::Past => Stepped::Refused(StatusCode::OUT_OF_TABLE),
-        Instantiates::All => list_steps::push_each(area, weight, s, fields, &args[..n]),
+        Instantiates::All => {
+            let pushed = list_steps::push_each(area, weight, s, fields, &args[..n]);
+            type_stack::rebuilt(pushed)
+        }
     }
 }
 

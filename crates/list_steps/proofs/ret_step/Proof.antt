@@ -16,4 +16,5 @@ ret-step-spec =
     (λ c κs. search needs)
     (λ c. search needs)
     (λ c κs. (c .before .before .before .before .before .pre .0, ((record { types = _; are = c .before .returns .ensures (c .before .before .before .before .before .pre .1) .is }, omega (arith, unit-short (c .before .before .before .before .before .pre .1))), record { subst = _; standing = none })))
-    (λ c p. c .pop-each .ensures .steps (record { types = _; are = c .before .before .returns .ensures p .is }) (record { subst = _; standing = none })))
+    (λ c κs. search needs)
+    (λ c p. rw (c .rebuilt .ensures) (c .before .pop-each .ensures .steps (record { types = _; are = c .before .before .before .returns .ensures p .is }) (record { subst = _; standing = none }))))

@@ -23,6 +23,7 @@ unpack-fields-spec =
     (λ c. search needs)
     (λ c. sym (length-take-le _ _ (omega (arith, list-small (c .before .before .before .before .before .before .before .before .before .before .before .pre .1 .1)))))
     (λ c κs. (c .before .before .before .before .before .before .before .before .before .before .before .pre .0, (c .before .before .before .before .before .before .before .before .before .before .before .pre .1 .0, arguments-of (c .before .before .before .before .before .before .before .before .before .before .before .pre .1 .1) (c .before .before .before .before .before .before .before .type-places .ensures))))
+    (λ c κs. search needs)
     (λ c. unpack-past (c .before .before .before .before .before .type-places .ensures) (c .before .before .instantiates-each .ensures) (c .enum-told .given .1))
     (λ c. search needs)
-    (λ c. unpack-made (c .before .before .before .before .before .before .before .before .before .before .type-places .ensures) (c .before .before .before .before .before .before .before .instantiates-each .ensures) (c .before .before .before .before .before .enum-told2 .given .1) (c .before .before .push-each .ensures)))
+    (λ c. unpack-made (c .before .before .before .before .before .before .before .before .before .before .before .type-places .ensures) (c .before .before .before .before .before .before .before .before .instantiates-each .ensures) (c .before .before .before .before .before .before .enum-told2 .given .1) (rw (c .rebuilt .ensures) (c .before .before .before .push-each .ensures))))
