@@ -12,7 +12,7 @@ use Rattle.unit.specs.declared.Four.{Four}
 use Rattle.unit.specs.declared.ReadTable.{ReadTable}
 use Rattle.unit.specs.declared.ReadFour.{ReadFour}
 use Rattle.unit.specs.declared.ReadTables.{ReadTables}
-use Rattle.unit.specs.Outline.{FourPlaces, inFour, TablePlaces, inTables, recordPlaces, fourPlaces, tablePlaces}
+use Rattle.unit.specs.Outline.{FourPlaces, inFour, inTables, recordPlaces, fourPlaces, tablePlaces}
 use Rattle.unit.specs.Filled.{Room, Filled, FilledBy, entries, tableOf, fourFrom, fourOf, afterFour, tablesOf}
 
 module _ {s before mid : List ℕ} {base : ℕ} {ps : List ℕ} {e : ℕ} (f : Filled s base before ps e mid) where
@@ -35,162 +35,156 @@ module _ {s before mid : List ℕ} {base : ℕ} {ps : List ℕ} {e : ℕ} (f : F
 pub room-later : {s index : List ℕ} {from base : ℕ} → Room s from base index → {e : ℕ} → from ≤ e → e ≤ length s → Room s e base index
 room-later room l h = record { below = omega (arith, room .below); inside = h; small = room .small; wide = room .wide }
 
-pub within : {s index : List ℕ} {from base : ℕ} → Room s from base index → base ≤ length index
-within room = omega (arith, room .below, room .inside, room .wide)
+-- ── what was read ──
 
--- a table that was read
-pub record GotTable (s before after : List ℕ) (base : ℕ) (x : Read (List ℕ)) (t : Table) (e : ℕ) : Type 0 where
-  pub ps : List ℕ
-  pub reads : x ≡ read ps e
-  pub table : t ≡ entries base ps
-  pub filled : Filled s base before ps e after
+-- An A was read, with its places, and is answered by a T, behind whose entries those of the next begin, at b: the places are in the index, which
+-- is as long as before and has room for what follows.
+module _ {A T : Type 0} (inIt : A → List ℕ) (answer : ℕ → A → T) (behind : T → ℕ) where
+  pub record Got (s before after : List ℕ) (base : ℕ) (x : Read A) (t : T) (e b : ℕ) : Type 0 where
+    pub got : A
+    pub reads : x ≡ read got e
+    pub is : t ≡ answer base got
+    pub next : b ≡ behind (answer base got)
+    pub ends : b ≡ base + length (inIt got)
+    pub filled : Filled s base before (inIt got) e after
+    pub inside : base ≤ length before
+    pub long : length after ≡ length before
+    pub room : Room s e b after
 
-module _ (base : ℕ) (x : Read (List ℕ)) {r : ReadTable} (q : r ≡ tableOf base x) where
-  pub got-table :
-      (s before after : List ℕ) → FilledBy (λ ps. ps) s base before x after → {t : Table} {e : ℕ} → r ≡ ReadTable.Records t e →
-      GotTable s before after base x t e
-  unfolding tableOf FilledBy
-  got-table s before after f {t} {e} k = go x q f
-    where
-      go : (y : Read (List ℕ)) → r ≡ tableOf base y → FilledBy (λ ps. ps) s base before y after → GotTable s before after base y t e
-      go (read ps d) q f =
-          let z : d ≡ e = cc in
-          record { ps = ps; reads = ap (read ps) z; table = cc; filled = rw z at f }
-      go (stop w p) q f = let z : _≡_ {A = ℕ} 0 1 = cc in absurd (omega arith)
+  pub got-it :
+      ((base : ℕ) (a : A) → behind (answer base a) ≡ base + length (inIt a)) →
+      {s before after : List ℕ} {from base : ℕ} {x : Read A} {t : T} {e b : ℕ} → Room s from base before → FilledBy inIt s base before x after →
+      length after ≡ length before → (a : A) × (x ≡ read a e) × (t ≡ answer base a) → b ≡ behind t → Got s before after base x t e b
+  unfolding FilledBy
+  got-it counts {s} {before} {after} {from} {base} {x} {t} {e} {b} room f long (a, q, k) n =
+      let there = rw q at f in
+      let m = n ∙ ap behind k in
+      let z = m ∙ counts base a in
+      record {
+        got = a;
+        reads = q;
+        is = k;
+        next = m;
+        ends = z;
+        filled = there;
+        inside = omega (arith, room .below, room .inside, room .wide);
+        long = long;
+        room = room-after there room long b z;
+      }
 
-  pub refused-table : {w : StatusCode} {p : ℕ} → r ≡ ReadTable.Refused w p → x ≡ stop w p
+-- a table
+abbrev pub GotTable : (s before after : List ℕ) (base : ℕ) → Read (List ℕ) → Table → (e b : ℕ) → Type 0
+GotTable = Got (λ ps. ps) entries (λ t. t .base + t .count)
+
+module _ (base : ℕ) where
+  pub table-read :
+      (x : Read (List ℕ)) {t : Table} {e : ℕ} → tableOf base x ≡ ReadTable.Records t e → (ps : List ℕ) × (x ≡ read ps e) × (t ≡ entries base ps)
   unfolding tableOf
-  refused-table {w} {p} k = go x q
-    where
-      go : (y : Read (List ℕ)) → r ≡ tableOf base y → y ≡ stop w p
-      go (read ps d) q = let z : _≡_ {A = ℕ} 0 1 = cc in absurd (omega arith)
-      go (stop v o) q = cc
+  table-read (read ps d) k = (ps, cc, cc)
+  table-read (stop w p) k = let z : _≡_ {A = ℕ} 0 1 = cc in absurd (omega arith)
 
--- where the next table's entries begin
-pub table-end : {s before after : List ℕ} {base : ℕ} {x : Read (List ℕ)} {t : Table} {e : ℕ} (g : GotTable s before after base x t e) →
-    {b : ℕ} → b ≡ t .base + t .count → b ≡ base + length (g .ps)
-table-end g q = q ∙ ap (λ (t : Table). t .base + t .count) (g .table)
-
--- what a refusal says of the contracts
-pub four-refused :
-    {w : StatusCode} {p : ℕ} (base : ℕ) (s before after : List ℕ) (x : Read FourPlaces) → x ≡ stop w p →
-    (ReadFour.Refused w p ≡ fourOf base x) × FilledBy inFour s base before x after
-unfolding fourOf FilledBy
-four-refused base s before after x q = rw q (refl, tt)
+  pub table-stopped : (x : Read (List ℕ)) {w : StatusCode} {p : ℕ} → tableOf base x ≡ ReadTable.Refused w p → x ≡ stop w p
+  unfolding tableOf
+  table-stopped (read ps d) k = let z : _≡_ {A = ℕ} 0 1 = cc in absurd (omega arith)
+  table-stopped (stop v o) k = cc
 
 -- ── four tables in a row ──
 
 module _ (commands : Commands) (c : ℕ) (s : List ℕ) (from base : ℕ) where
-  pub four-refused-1 : {w : StatusCode} {p : ℕ} → recordPlaces commands c s from ≡ stop w p → fourPlaces commands c s from ≡ stop w p
-  unfolding fourPlaces _>>=_ next
-  four-refused-1 q = rw q
+  -- the answer and the index after a refusal
+  abbrev FourRefused : (before after : List ℕ) → StatusCode → ℕ → Type 0
+  FourRefused before after w p =
+      (ReadFour.Refused w p ≡ fourOf base (fourPlaces commands c s from)) × FilledBy inFour s base before (fourPlaces commands c s from) after
 
-  module _ {before m1 : List ℕ} {t1 : Table} {e1 : ℕ} (g1 : GotTable s before m1 base (recordPlaces commands c s from) t1 e1) where
-    pub four-refused-2 : {w : StatusCode} {p : ℕ} → recordPlaces commands (c + 1) s e1 ≡ stop w p → fourPlaces commands c s from ≡ stop w p
-    unfolding fourPlaces _>>=_ next
-    four-refused-2 q = rw (g1 .reads, q)
+  pub four-refused-1 : {w : StatusCode} {p : ℕ} (before after : List ℕ) → recordPlaces commands c s from ≡ stop w p → FourRefused before after w p
+  unfolding fourPlaces _>>=_ next fourOf FilledBy
+  four-refused-1 before after q = rw q (refl, tt)
 
-    module _ {m2 : List ℕ} {t2 : Table} {b2 e2 : ℕ} (g2 : GotTable s m1 m2 b2 (recordPlaces commands (c + 1) s e1) t2 e2) where
-      pub four-refused-3 : {w : StatusCode} {p : ℕ} → recordPlaces commands (c + 2) s e2 ≡ stop w p → fourPlaces commands c s from ≡ stop w p
-      unfolding fourPlaces _>>=_ next
-      four-refused-3 q = rw (g1 .reads, g2 .reads, q)
+  module _ {before m1 : List ℕ} {t1 : Table} {e1 b1 : ℕ} (g1 : GotTable s before m1 base (recordPlaces commands c s from) t1 e1 b1) where
+    pub four-refused-2 : {w : StatusCode} {p : ℕ} (after : List ℕ) → recordPlaces commands (c + 1) s e1 ≡ stop w p → FourRefused before after w p
+    unfolding fourPlaces _>>=_ next fourOf FilledBy
+    four-refused-2 after q = rw (g1 .reads, q) (refl, tt)
 
-      module _ {m3 : List ℕ} {t3 : Table} {b3 e3 : ℕ} (g3 : GotTable s m2 m3 b3 (recordPlaces commands (c + 2) s e2) t3 e3) where
-        pub four-refused-4 : {w : StatusCode} {p : ℕ} → recordPlaces commands (c + 3) s e3 ≡ stop w p → fourPlaces commands c s from ≡ stop w p
-        unfolding fourPlaces _>>=_ next
-        four-refused-4 q = rw (g1 .reads, g2 .reads, g3 .reads, q)
+    module _ {m2 : List ℕ} {t2 : Table} {e2 b2 : ℕ} (g2 : GotTable s m1 m2 b1 (recordPlaces commands (c + 1) s e1) t2 e2 b2) where
+      pub four-refused-3 : {w : StatusCode} {p : ℕ} (after : List ℕ) → recordPlaces commands (c + 2) s e2 ≡ stop w p → FourRefused before after w p
+      unfolding fourPlaces _>>=_ next fourOf FilledBy
+      four-refused-3 after q = rw (g1 .reads, g2 .reads, q) (refl, tt)
 
-        module _ {m4 : List ℕ} {t4 : Table} {b4 e4 : ℕ} (g4 : GotTable s m3 m4 b4 (recordPlaces commands (c + 3) s e3) t4 e4) where
+      module _ {m3 : List ℕ} {t3 : Table} {e3 b3 : ℕ} (g3 : GotTable s m2 m3 b2 (recordPlaces commands (c + 2) s e2) t3 e3 b3) where
+        pub four-refused-4 : {w : StatusCode} {p : ℕ} (after : List ℕ) → recordPlaces commands (c + 3) s e3 ≡ stop w p → FourRefused before after w p
+        unfolding fourPlaces _>>=_ next fourOf FilledBy
+        four-refused-4 after q = rw (g1 .reads, g2 .reads, g3 .reads, q) (refl, tt)
+
+        module _ {m4 : List ℕ} {t4 : Table} {e4 b4 : ℕ} (g4 : GotTable s m3 m4 b3 (recordPlaces commands (c + 3) s e3) t4 e4 b4) where
           abbrev inThese : FourPlaces
-          inThese = record { first = g1 .ps; second = g2 .ps; third = g3 .ps; fourth = g4 .ps }
+          inThese = record { first = g1 .got; second = g2 .got; third = g3 .got; fourth = g4 .got }
 
-          four-reads : fourPlaces commands c s from ≡ read inThese e4
+          four-all : fourPlaces commands c s from ≡ read inThese e4
           unfolding fourPlaces _>>=_ next give
-          four-reads = rw (g1 .reads, g2 .reads, g3 .reads, g4 .reads)
+          four-all = rw (g1 .reads, g2 .reads, g3 .reads, g4 .reads)
 
           pub four-answers :
-              b2 ≡ t1 .base + t1 .count → b3 ≡ t2 .base + t2 .count → b4 ≡ t3 .base + t3 .count →
               (ReadFour.Tables (record { first = t1; second = t2; third = t3; fourth = t4 }) e4 ≡ fourOf base (fourPlaces commands c s from))
               × FilledBy inFour s base before (fourPlaces commands c s from) m4
           unfolding inFour fourOf FilledBy
-          four-answers q2 q3 q4 =
-              let z2 = table-end g1 q2 in
-              let z3 : b3 ≡ base + length (g1 .ps) + length (g2 .ps) = table-end g2 q3 ∙ ap (λ (n : ℕ). n + length (g2 .ps)) z2 in
-              let z4 : b4 ≡ base + length (g1 .ps) + length (g2 .ps) + length (g3 .ps) = table-end g3 q4 ∙ ap (λ (n : ℕ). n + length (g3 .ps)) z3 in
-              rw four-reads (
+          four-answers =
+              let z2 : b2 ≡ base + length (g1 .got) + length (g2 .got) = g2 .next ∙ ap (λ (n : ℕ). n + length (g2 .got)) (g1 .next) in
+              let z3 : b3 ≡ base + length (g1 .got) + length (g2 .got) + length (g3 .got) = g3 .next ∙ ap (λ (n : ℕ). n + length (g3 .got)) z2 in
+              rw four-all (
                 cc,
-                filled-then (g1 .filled) z2 (filled-then (g2 .filled) (table-end g2 q3) (filled-then (g3 .filled) (table-end g3 q4) (g4 .filled))),
+                filled-then (g1 .filled) (g1 .ends) (filled-then (g2 .filled) (g2 .ends) (filled-then (g3 .filled) (g3 .ends) (g4 .filled))),
               )
 
 -- ── the tables before the function ──
 
--- four tables that were read
-pub record GotFour (s before after : List ℕ) (base : ℕ) (x : Read FourPlaces) (t : Four) (e : ℕ) : Type 0 where
-  pub four : FourPlaces
-  pub reads : x ≡ read four e
-  pub tables : t ≡ fourFrom base four
-  pub filled : Filled s base before (inFour four) e after
+-- four tables
+abbrev pub GotFour : (s before after : List ℕ) (base : ℕ) → Read FourPlaces → Four → (e b : ℕ) → Type 0
+GotFour = Got inFour fourFrom (λ t. t .fourth .base + t .fourth .count)
 
-module _ (base : ℕ) (x : Read FourPlaces) {r : ReadFour} (q : r ≡ fourOf base x) where
-  pub got-four :
-      (s before after : List ℕ) → FilledBy inFour s base before x after → {t : Four} {e : ℕ} → r ≡ ReadFour.Tables t e → GotFour s before after base x t e
-  unfolding fourOf FilledBy
-  got-four s before after f {t} {e} k = go x q f
-    where
-      go : (y : Read FourPlaces) → r ≡ fourOf base y → FilledBy inFour s base before y after → GotFour s before after base y t e
-      go (read four d) q f =
-          let z : d ≡ e = cc in
-          record { four = four; reads = ap (read four) z; tables = cc; filled = rw z at f }
-      go (stop w p) q f = let z : _≡_ {A = ℕ} 0 1 = cc in absurd (omega arith)
+pub four-counts : (base : ℕ) (f : FourPlaces) → afterFour base f ≡ base + length (inFour f)
+unfolding inFour
+four-counts base f = simp length-append (omega arith)
 
-  pub refused-four : {w : StatusCode} {p : ℕ} → r ≡ ReadFour.Refused w p → x ≡ stop w p
+module _ (base : ℕ) where
+  pub four-read :
+      (x : Read FourPlaces) {t : Four} {e : ℕ} → fourOf base x ≡ ReadFour.Tables t e → (f : FourPlaces) × (x ≡ read f e) × (t ≡ fourFrom base f)
   unfolding fourOf
-  refused-four {w} {p} k = go x q
-    where
-      go : (y : Read FourPlaces) → r ≡ fourOf base y → y ≡ stop w p
-      go (read four d) q = let z : _≡_ {A = ℕ} 0 1 = cc in absurd (omega arith)
-      go (stop v o) q = cc
+  four-read (read f d) k = (f, cc, cc)
+  four-read (stop w p) k = let z : _≡_ {A = ℕ} 0 1 = cc in absurd (omega arith)
 
-module _ {s before after : List ℕ} {base : ℕ} {x : Read FourPlaces} {t : Four} {e : ℕ} (g : GotFour s before after base x t e) where
-  four-after : {b : ℕ} → b ≡ t .fourth .base + t .fourth .count → b ≡ afterFour base (g .four)
-  four-after q = q ∙ ap (λ (t : Four). t .fourth .base + t .fourth .count) (g .tables)
-
-  pub four-end : {b : ℕ} → b ≡ t .fourth .base + t .fourth .count → b ≡ base + length (inFour (g .four))
-  unfolding inFour
-  four-end q = four-after q ∙ simp length-append (omega arith)
+  pub four-stopped : (x : Read FourPlaces) {w : StatusCode} {p : ℕ} → fourOf base x ≡ ReadFour.Refused w p → x ≡ stop w p
+  unfolding fourOf
+  four-stopped (read f d) k = let z : _≡_ {A = ℕ} 0 1 = cc in absurd (omega arith)
+  four-stopped (stop v o) k = cc
 
 module _ (commands : Commands) (s : List ℕ) (from : ℕ) where
-  pub tables-refused-1 : {w : StatusCode} {p : ℕ} → fourPlaces commands 0x10 s from ≡ stop w p → tablePlaces commands s from ≡ stop w p
-  unfolding tablePlaces _>>=_ next
-  tables-refused-1 q = rw q
+  abbrev TablesRefused : (before after : List ℕ) → StatusCode → ℕ → Type 0
+  TablesRefused before after w p =
+      (ReadTables.Refused w p ≡ tablesOf (tablePlaces commands s from)) × FilledBy inTables s 0 before (tablePlaces commands s from) after
 
-  module _ {before m1 : List ℕ} {t1 : Four} {e1 : ℕ} (g1 : GotFour s before m1 0 (fourPlaces commands 0x10 s from) t1 e1) where
-    pub tables-refused-2 : {w : StatusCode} {p : ℕ} → fourPlaces commands 0x14 s e1 ≡ stop w p → tablePlaces commands s from ≡ stop w p
-    unfolding tablePlaces _>>=_ next
-    tables-refused-2 q = rw (g1 .reads, q)
+  pub tables-refused-1 : {w : StatusCode} {p : ℕ} (before after : List ℕ) → fourPlaces commands 0x10 s from ≡ stop w p → TablesRefused before after w p
+  unfolding tablePlaces _>>=_ next tablesOf FilledBy
+  tables-refused-1 before after q = rw q (refl, tt)
 
-    module _ {m2 : List ℕ} {t2 : Four} {b2 e2 : ℕ} (g2 : GotFour s m1 m2 b2 (fourPlaces commands 0x14 s e1) t2 e2) where
-      pub tables-refused-3 : {w : StatusCode} {p : ℕ} → recordPlaces commands 0x18 s e2 ≡ stop w p → tablePlaces commands s from ≡ stop w p
-      unfolding tablePlaces _>>=_ next
-      tables-refused-3 q = rw (g1 .reads, g2 .reads, q)
+  module _ {before m1 : List ℕ} {t1 : Four} {e1 b1 : ℕ} (g1 : GotFour s before m1 0 (fourPlaces commands 0x10 s from) t1 e1 b1) where
+    pub tables-refused-2 : {w : StatusCode} {p : ℕ} (after : List ℕ) → fourPlaces commands 0x14 s e1 ≡ stop w p → TablesRefused before after w p
+    unfolding tablePlaces _>>=_ next tablesOf FilledBy
+    tables-refused-2 after q = rw (g1 .reads, q) (refl, tt)
 
-      module _ {m3 : List ℕ} {t3 : Table} {b3 e3 : ℕ} (g3 : GotTable s m2 m3 b3 (recordPlaces commands 0x18 s e2) t3 e3) where
-        tables-read : tablePlaces commands s from ≡ read (record { handles = g1 .four; definitions = g2 .four; constants = g3 .ps }) e3
+    module _ {m2 : List ℕ} {t2 : Four} {e2 b2 : ℕ} (g2 : GotFour s m1 m2 b1 (fourPlaces commands 0x14 s e1) t2 e2 b2) where
+      pub tables-refused-3 : {w : StatusCode} {p : ℕ} (after : List ℕ) → recordPlaces commands 0x18 s e2 ≡ stop w p → TablesRefused before after w p
+      unfolding tablePlaces _>>=_ next tablesOf FilledBy
+      tables-refused-3 after q = rw (g1 .reads, g2 .reads, q) (refl, tt)
+
+      module _ {m3 : List ℕ} {t3 : Table} {e3 b3 : ℕ} (g3 : GotTable s m2 m3 b2 (recordPlaces commands 0x18 s e2) t3 e3 b3) where
+        tables-read : tablePlaces commands s from ≡ read (record { handles = g1 .got; definitions = g2 .got; constants = g3 .got }) e3
         unfolding tablePlaces _>>=_ next give
         tables-read = rw (g1 .reads, g2 .reads, g3 .reads)
 
         pub tables-answers :
-            b2 ≡ t1 .fourth .base + t1 .fourth .count → b3 ≡ t2 .fourth .base + t2 .fourth .count →
             (ReadTables.Tables (record { handles = t1; definitions = t2; constants = t3 }) e3 ≡ tablesOf (tablePlaces commands s from))
             × FilledBy inTables s 0 before (tablePlaces commands s from) m3
         unfolding inTables tablesOf FilledBy
-        tables-answers q2 q3 =
-            let z2 = four-after g1 q2 in
-            let z3 : b3 ≡ afterFour (afterFour 0 (g1 .four)) (g2 .four) = four-after g2 q3 ∙ ap (λ (n : ℕ). afterFour n (g2 .four)) z2 in
-            rw tables-read (cc, filled-then (g1 .filled) (four-end g1 q2) (filled-then (g2 .filled) (four-end g2 q3) (g3 .filled)))
-
-pub tables-refused :
-    {w : StatusCode} {p : ℕ} (s before after : List ℕ) (x : Read TablePlaces) → x ≡ stop w p →
-    (ReadTables.Refused w p ≡ tablesOf x) × FilledBy inTables s 0 before x after
-unfolding tablesOf FilledBy
-tables-refused s before after x q = rw q (refl, tt)
+        tables-answers =
+            let z : b2 ≡ afterFour (afterFour 0 (g1 .got)) (g2 .got) = g2 .next ∙ ap (λ (n : ℕ). afterFour n (g2 .got)) (g1 .next) in
+            rw tables-read (cc, filled-then (g1 .filled) (g1 .ends) (filled-then (g2 .filled) (g2 .ends) (g3 .filled)))

@@ -6,3 +6,4 @@ pub mod Blocks
 pub mod Due
 pub mod Listed
 pub mod Whole
+pub mod Calls

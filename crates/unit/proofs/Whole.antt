@@ -36,13 +36,14 @@ pub record GotTables (s before after : List ℕ) (commands : Commands) (t : Tabl
   pub reads : unitTables commands s 1 ≡ read tables e
   pub are : t ≡ tablesFrom (placesOf tables)
   pub filled : Filled s 0 before (inTables (placesOf tables)) e after
+  pub long : length after ≡ length before
 
 module _ (s : List ℕ) (commands : Commands) {r : ReadTables} (q : r ≡ tablesOf (tablePlaces commands s 1)) where
   pub got-tables :
-      (before after : List ℕ) → FilledBy inTables s 0 before (tablePlaces commands s 1) after → {t : Tables} {e : ℕ} → r ≡ ReadTables.Tables t e →
-      GotTables s before after commands t e
+      (before after : List ℕ) → FilledBy inTables s 0 before (tablePlaces commands s 1) after → length after ≡ length before →
+      {t : Tables} {e : ℕ} → r ≡ ReadTables.Tables t e → GotTables s before after commands t e
   unfolding tablesOf FilledBy next
-  got-tables before after f {t} {e} k = go (unitTables commands s 1) refl (q ∙ ap tablesOf (sym z)) (rw (← z) at f)
+  got-tables before after f long {t} {e} k = go (unitTables commands s 1) refl (q ∙ ap tablesOf (sym z)) (rw (← z) at f)
     where
       z : next (unitTables commands s 1) (λ t e. read (placesOf t) e) ≡ tablePlaces commands s 1
       z = tables-forgotten commands s 1
@@ -51,7 +52,7 @@ module _ (s : List ℕ) (commands : Commands) {r : ReadTables} (q : r ≡ tables
           FilledBy inTables s 0 before (next x (λ t e. read (placesOf t) e)) after → GotTables s before after commands t e
       go (read u d) p q f =
           let y : d ≡ e = cc in
-          record { tables = u; reads = p ∙ ap (read u) y; are = cc; filled = rw y at f }
+          record { tables = u; reads = p ∙ ap (read u) y; are = cc; filled = rw y at f; long = long }
       go (stop w o) p q f = let y : _≡_ {A = ℕ} 0 1 = cc in absurd (omega arith)
 
   pub refused-tables : {w : StatusCode} {p : ℕ} → r ≡ ReadTables.Refused w p → unitTables commands s 1 ≡ stop w p
@@ -94,22 +95,26 @@ same-head : (h : Head) → headFor (headOf h) ≡ h
 same-head Head.Module = refl
 same-head Head.Script = refl
 
-pub unit-refused : {w : StatusCode} {p : ℕ} (index : List ℕ) (x : Read Decoded) → x ≡ stop w p → (ReadUnit.Refused w p ≡ answerOf x) × Indexed x index
+-- the answer and the index after a refusal
+abbrev UnitRefused : Read Decoded → List ℕ → StatusCode → ℕ → Type 0
+UnitRefused x index w p = (ReadUnit.Refused w p ≡ answerOf x) × Indexed x index
+
+pub unit-refused : {w : StatusCode} {p : ℕ} (index : List ℕ) (x : Read Decoded) → x ≡ stop w p → UnitRefused x index w p
 unfolding answerOf Indexed
 unit-refused index x q = rw q (refl, tt)
 
 module _ (head : defs.Head) (s : List ℕ) where
-  pub under-refused-1 : {w : StatusCode} {p : ℕ} → unitTables (commandsOf head) s 1 ≡ stop w p → unitUnder head s 1 ≡ stop w p
-  unfolding unitInParts _>>=_ next
-  under-refused-1 q = unit-in-parts head s 1 ∙ rw q
+  pub under-refused-1 : {w : StatusCode} {p : ℕ} (index : List ℕ) → unitTables (commandsOf head) s 1 ≡ stop w p → UnitRefused (unitUnder head s 1) index w p
+  unfolding unitInParts _>>=_ next answerOf Indexed
+  under-refused-1 index q = rw (unit-in-parts head s 1, q) (refl, tt)
 
   module _ {before m1 : List ℕ} {t : Tables} {e1 : ℕ} (g1 : GotTables s before m1 (commandsOf head) t e1) where
     abbrev signatures : List Signature
     signatures = items (g1 .tables .signatures)
 
-    pub under-refused-2 : {w : StatusCode} {p : ℕ} → due (commandsOf head) 0x19 s e1 ≡ stop w p → unitUnder head s 1 ≡ stop w p
-    unfolding unitInParts _>>=_ _>>_ next here
-    under-refused-2 q = unit-in-parts head s 1 ∙ rw (g1 .reads, q)
+    pub under-refused-2 : {w : StatusCode} {p : ℕ} (index : List ℕ) → due (commandsOf head) 0x19 s e1 ≡ stop w p → UnitRefused (unitUnder head s 1) index w p
+    unfolding unitInParts _>>=_ _>>_ next here answerOf Indexed
+    under-refused-2 index q = rw (unit-in-parts head s 1, g1 .reads, q) (refl, tt)
 
     -- how many signatures there are
     pub signature-count : {n : ℕ} → n ≡ t .handles .second .count → length signatures ≡ n
@@ -118,23 +123,24 @@ module _ (head : defs.Head) (s : List ℕ) where
         length-map (g1 .tables .signatures) _ ∙ sym (q ∙ ap (λ (t : Tables). t .handles .second .count) (g1 .are) ∙ length-map (g1 .tables .signatures) _)
 
     module _ {u : Unit {0}} {e2 : ℕ} (d : due (commandsOf head) 0x19 s e1 ≡ read u e2) where
-      pub under-refused-3 : {w : StatusCode} {p : ℕ} → functionView signatures s e2 ≡ stop w p → unitUnder head s 1 ≡ stop w p
-      unfolding unitInParts _>>=_ _>>_ next here
-      under-refused-3 q = unit-in-parts head s 1 ∙ rw (g1 .reads, d, q)
+      pub under-refused-3 : {w : StatusCode} {p : ℕ} (index : List ℕ) → functionView signatures s e2 ≡ stop w p → UnitRefused (unitUnder head s 1) index w p
+      unfolding unitInParts _>>=_ _>>_ next here answerOf Indexed
+      under-refused-3 index q = rw (unit-in-parts head s 1, g1 .reads, d, q) (refl, tt)
 
       module _ {view : defs.FunctionView} {e3 : ℕ} (f : functionView signatures s e2 ≡ read view e3) where
-        pub under-refused-4 : {w : StatusCode} {p : ℕ} → unitListing (commandsOf head) s e3 ≡ stop w p → unitUnder head s 1 ≡ stop w p
-        unfolding unitInParts _>>=_ _>>_ next here
-        under-refused-4 q = unit-in-parts head s 1 ∙ rw (g1 .reads, d, f, q)
+        pub under-refused-4 :
+            {w : StatusCode} {p : ℕ} (index : List ℕ) → unitListing (commandsOf head) s e3 ≡ stop w p → UnitRefused (unitUnder head s 1) index w p
+        unfolding unitInParts _>>=_ _>>_ next here answerOf Indexed
+        under-refused-4 index q = rw (unit-in-parts head s 1, g1 .reads, d, f, q) (refl, tt)
 
         -- there is room for the listing
-        pub listing-room : Room s 1 0 before → length m1 ≡ length before → {b : ℕ} → b ≡ afterTables t → Room s e3 b m1
+        pub listing-room : Room s 1 0 before → {b : ℕ} → b ≡ afterTables t → Room s e3 b m1
         unfolding inTables inFour
-        listing-room room long {b} q =
+        listing-room room {b} q =
             let x = due-got (commandsOf head) 0x19 s e1 d in
             let y = reads-within (functionView-reaches signatures) s e2 (omega arith) f in
             let z : b ≡ 0 + length (inTables (placesOf (g1 .tables))) = q ∙ ap afterTables (g1 .are) ∙ simp length-append (omega arith) in
-            room-later (room-after (g1 .filled) room long b z) (omega (arith, y .far)) (y .within)
+            room-later (room-after (g1 .filled) room (g1 .long) b z) (omega (arith, y .far)) (y .within)
 
         module _ {m2 : List ℕ} {b : ℕ} {tl : Listing} (g3 : GotListing s m1 m2 b (unitListing (commandsOf head) s e3) tl) where
           abbrev read-there : Decoded

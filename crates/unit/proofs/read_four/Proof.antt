@@ -1,9 +1,46 @@
 -- `read_four`: four tables in turn, each filled behind the last.
+use mathlib.Core.Path.{refl}
 use native.Mathlib.Omega.{arith}
-use Rattle.unit.proofs.Filling.{room-after, got-table, refused-table, table-end, four-refused, four-refused-1, four-refused-2, four-refused-3, four-refused-4, four-answers}
+use Rattle.unit.proofs.Filling.{four-refused-1, four-refused-2, four-refused-3, four-refused-4, four-answers}
+use Rattle.unit.proofs.Calls.{ToldTable, told-table, refused-table}
 use borrow.Author.Needs.{needs}
 use Rattle.unit.proofs.read_four.Statement.{statement}
 use Rattle.unit.proofs.read_four.Tie as tie
+
+-- from the place where a table is known and the next is about to be read to that of the table before, and to the function's entry
+abbrev to-second : tie.After-end3 → tie.After-end2
+to-second c = c .before .before .before .before .before .before .before .before
+
+abbrev to-first : tie.After-end2 → tie.After-end
+to-first c = c .before .before .before .before .before .before .before .before
+
+abbrev entry : tie.After-end → tie.Start
+entry c = c .before .before .before .before .before .before .before .before .before .before .before
+
+-- what each call told
+first :
+    (c : tie.After-end) →
+    let k = c .before .before .before in
+    ToldTable (k .before .before .before .before .read-table) (k .first .given) (c .end .result)
+first c =
+    let k = c .before .before .before in
+    told-table (k .before .before .before .before .read-table) (entry c .pre .0) (k .first .given) (c .end .ensures)
+
+second :
+    (c : tie.After-end2) →
+    let k = c .before .before .before in
+    ToldTable (k .before .before .before .before .read-table2) (k .second .given) (c .end2 .result)
+second c =
+    let k = c .before .before .before in
+    told-table (k .before .before .before .before .read-table2) (first (to-first c) .room) (k .second .given) (c .end2 .ensures)
+
+third :
+    (c : tie.After-end3) →
+    let k = c .before .before .before in
+    ToldTable (k .before .before .before .before .read-table3) (k .third .given) (c .end3 .result)
+third c =
+    let k = c .before .before .before in
+    told-table (k .before .before .before .before .read-table3) (second (to-second c) .room) (k .third .given) (c .end3 .ensures)
 
 pub read-four-spec : {M : Type 1} → statement M
 read-four-spec =
@@ -14,45 +51,40 @@ read-four-spec =
     (λ c. search needs)
     (λ c. search needs)
     (λ c κs. search needs)
-    (λ c κs. let g1 = got-table _ _ (c .before .before .before .before .before .before .before .read-table .ensures .0) _ _ _ (c .before .before .before .before .before .before .before .read-table .ensures .1) (c .before .before .before .first .given .1) in
-    room-after (g1 .filled) (c .before .before .before .before .before .before .before .before .before .before .before .pre .0) (omega (arith, c .before .before .before .before .before .before .before .read-table .kept)) _ (table-end g1 (c .end .ensures)))
+    (λ c κs. first c .room)
     (λ c. search needs)
     (λ c. search needs)
     (λ c. search needs)
     (λ c κs. search needs)
-    (λ c κs. let g1 = got-table _ _ (c .before .before .before .before .before .before .before .before .before .before .before .before .before .before .before .read-table .ensures .0) _ _ _ (c .before .before .before .before .before .before .before .before .before .before .before .before .before .before .before .read-table .ensures .1) (c .before .before .before .before .before .before .before .before .before .before .before .first .given .1) in
-    let g2 = got-table _ _ (c .before .before .before .before .before .before .before .read-table2 .ensures .0) _ _ _ (c .before .before .before .before .before .before .before .read-table2 .ensures .1) (c .before .before .before .second .given .1) in
-    let room = room-after (g1 .filled) (c .before .before .before .before .before .before .before .before .before .before .before .before .before .before .before .before .before .before .before .pre .0) (omega (arith, c .before .before .before .before .before .before .before .before .before .before .before .before .before .before .before .read-table .kept)) _ (table-end g1 (c .before .before .before .before .before .before .before .before .end .ensures)) in
-    room-after (g2 .filled) room (omega (arith, c .before .before .before .before .before .before .before .read-table2 .kept)) _ (table-end g2 (c .end2 .ensures)))
+    (λ c κs. second c .room)
     (λ c. search needs)
     (λ c. search needs)
-    (λ c. omega (arith, c .before .before .before .before .before .before .before .before .before .before .before .before .before .before .before .before .before .before .before .before .before .before .before .before .before .pre .1))
+    (λ c. omega (arith, entry (to-first (c .before .before .before .before .before .before)) .pre .1))
     (λ c κs. search needs)
-    (λ c κs. let g1 = got-table _ _ (c .before .before .before .before .before .before .before .before .before .before .before .before .before .before .before .before .before .before .before .before .before .before .before .read-table .ensures .0) _ _ _ (c .before .before .before .before .before .before .before .before .before .before .before .before .before .before .before .before .before .before .before .before .before .before .before .read-table .ensures .1) (c .before .before .before .before .before .before .before .before .before .before .before .before .before .before .before .before .before .before .before .first .given .1) in
-    let g2 = got-table _ _ (c .before .before .before .before .before .before .before .before .before .before .before .before .before .before .before .read-table2 .ensures .0) _ _ _ (c .before .before .before .before .before .before .before .before .before .before .before .before .before .before .before .read-table2 .ensures .1) (c .before .before .before .before .before .before .before .before .before .before .before .second .given .1) in
-    let g3 = got-table _ _ (c .before .before .before .before .before .before .before .read-table3 .ensures .0) _ _ _ (c .before .before .before .before .before .before .before .read-table3 .ensures .1) (c .before .before .before .third .given .1) in
-    let room2 = room-after (g1 .filled) (c .before .before .before .before .before .before .before .before .before .before .before .before .before .before .before .before .before .before .before .before .before .before .before .before .before .before .before .pre .0) (omega (arith, c .before .before .before .before .before .before .before .before .before .before .before .before .before .before .before .before .before .before .before .before .before .before .before .read-table .kept)) _ (table-end g1 (c .before .before .before .before .before .before .before .before .before .before .before .before .before .before .before .before .end .ensures)) in
-    let room3 = room-after (g2 .filled) room2 (omega (arith, c .before .before .before .before .before .before .before .before .before .before .before .before .before .before .before .read-table2 .kept)) _ (table-end g2 (c .before .before .before .before .before .before .before .before .end2 .ensures)) in
-    room-after (g3 .filled) room3 (omega (arith, c .before .before .before .before .before .before .before .read-table3 .kept)) _ (table-end g3 (c .end3 .ensures)))
+    (λ c κs. third c .room)
     (λ c. search needs)
     (λ c. search needs)
     (λ c. search needs)
-    (λ c. four-refused _ _ _ _ _ (four-refused-1 _ _ _ _ 0 (refused-table _ _ (c .before .before .before .before .before .read-table .ensures .0) (c .before .status .given .1))))
+    (λ c. let r = c .before .before .before .before .before in
+    four-refused-1 _ _ _ _ _ _ _ (refused-table (r .read-table) (c .before .status .given .1)))
     (λ c. search needs)
-    (λ c. let g1 = got-table _ _ (c .before .before .before .before .before .before .before .before .before .before .before .before .before .read-table .ensures .0) _ _ _ (c .before .before .before .before .before .before .before .before .before .before .before .before .before .read-table .ensures .1) (c .before .before .before .before .before .before .before .before .before .first .given .1) in
-    four-refused _ _ _ _ _ (four-refused-2 _ _ _ _ _ g1 (refused-table _ _ (c .before .before .before .before .before .read-table2 .ensures .0) (c .before .status2 .given .1))))
+    (λ c. let r = c .before .before .before .before .before in
+    four-refused-2 _ _ _ _ _ (first (r .before)) _ (refused-table (r .read-table2) (c .before .status2 .given .1)))
     (λ c. search needs)
-    (λ c. let g1 = got-table _ _ (c .before .before .before .before .before .before .before .before .before .before .before .before .before .before .before .before .before .before .before .before .before .read-table .ensures .0) _ _ _ (c .before .before .before .before .before .before .before .before .before .before .before .before .before .before .before .before .before .before .before .before .before .read-table .ensures .1) (c .before .before .before .before .before .before .before .before .before .before .before .before .before .before .before .before .before .first .given .1) in
-    let g2 = got-table _ _ (c .before .before .before .before .before .before .before .before .before .before .before .before .before .read-table2 .ensures .0) _ _ _ (c .before .before .before .before .before .before .before .before .before .before .before .before .before .read-table2 .ensures .1) (c .before .before .before .before .before .before .before .before .before .second .given .1) in
-    four-refused _ _ _ _ _ (four-refused-3 _ _ _ _ _ g1 g2 (refused-table _ _ (c .before .before .before .before .before .read-table3 .ensures .0) (c .before .status3 .given .1))))
-    (λ c. omega (arith, c .before .before .before .before .before .read-table4 .kept, c .before .before .before .before .before .before .before .before .before .before .before .before .before .read-table3 .kept, c .before .before .before .before .before .before .before .before .before .before .before .before .before .before .before .before .before .before .before .before .before .read-table2 .kept, c .before .before .before .before .before .before .before .before .before .before .before .before .before .before .before .before .before .before .before .before .before .before .before .before .before .before .before .before .before .read-table .kept))
-    (λ c. let g1 = got-table _ _ (c .before .before .before .before .before .before .before .before .before .before .before .before .before .before .before .before .before .before .before .before .before .before .before .before .before .before .before .before .before .read-table .ensures .0) _ _ _ (c .before .before .before .before .before .before .before .before .before .before .before .before .before .before .before .before .before .before .before .before .before .before .before .before .before .before .before .before .before .read-table .ensures .1) (c .before .before .before .before .before .before .before .before .before .before .before .before .before .before .before .before .before .before .before .before .before .before .before .before .before .first .given .1) in
-    let g2 = got-table _ _ (c .before .before .before .before .before .before .before .before .before .before .before .before .before .before .before .before .before .before .before .before .before .read-table2 .ensures .0) _ _ _ (c .before .before .before .before .before .before .before .before .before .before .before .before .before .before .before .before .before .before .before .before .before .read-table2 .ensures .1) (c .before .before .before .before .before .before .before .before .before .before .before .before .before .before .before .before .before .second .given .1) in
-    let g3 = got-table _ _ (c .before .before .before .before .before .before .before .before .before .before .before .before .before .read-table3 .ensures .0) _ _ _ (c .before .before .before .before .before .before .before .before .before .before .before .before .before .read-table3 .ensures .1) (c .before .before .before .before .before .before .before .before .before .third .given .1) in
-    four-refused _ _ _ _ _ (four-refused-4 _ _ _ _ _ g1 g2 g3 (refused-table _ _ (c .before .before .before .before .before .read-table4 .ensures .0) (c .before .status4 .given .1))))
-    (λ c. omega (arith, c .before .before .before .before .before .read-table4 .kept, c .before .before .before .before .before .before .before .before .before .before .before .before .before .read-table3 .kept, c .before .before .before .before .before .before .before .before .before .before .before .before .before .before .before .before .before .before .before .before .before .read-table2 .kept, c .before .before .before .before .before .before .before .before .before .before .before .before .before .before .before .before .before .before .before .before .before .before .before .before .before .before .before .before .before .read-table .kept))
-    (λ c. let g1 = got-table _ _ (c .before .before .before .before .before .before .before .before .before .before .before .before .before .before .before .before .before .before .before .before .before .before .before .before .before .before .before .before .before .read-table .ensures .0) _ _ _ (c .before .before .before .before .before .before .before .before .before .before .before .before .before .before .before .before .before .before .before .before .before .before .before .before .before .before .before .before .before .read-table .ensures .1) (c .before .before .before .before .before .before .before .before .before .before .before .before .before .before .before .before .before .before .before .before .before .before .before .before .before .first .given .1) in
-    let g2 = got-table _ _ (c .before .before .before .before .before .before .before .before .before .before .before .before .before .before .before .before .before .before .before .before .before .read-table2 .ensures .0) _ _ _ (c .before .before .before .before .before .before .before .before .before .before .before .before .before .before .before .before .before .before .before .before .before .read-table2 .ensures .1) (c .before .before .before .before .before .before .before .before .before .before .before .before .before .before .before .before .before .second .given .1) in
-    let g3 = got-table _ _ (c .before .before .before .before .before .before .before .before .before .before .before .before .before .read-table3 .ensures .0) _ _ _ (c .before .before .before .before .before .before .before .before .before .before .before .before .before .read-table3 .ensures .1) (c .before .before .before .before .before .before .before .before .before .third .given .1) in
-    let g4 = got-table _ _ (c .before .before .before .before .before .read-table4 .ensures .0) _ _ _ (c .before .before .before .before .before .read-table4 .ensures .1) (c .before .fourth .given .1) in
-    four-answers _ _ _ _ _ g1 g2 g3 g4 (c .before .before .before .before .before .before .before .before .before .before .before .before .before .before .before .before .before .before .before .before .before .before .end .ensures) (c .before .before .before .before .before .before .before .before .before .before .before .before .before .before .end2 .ensures) (c .before .before .before .before .before .before .end3 .ensures)))
+    (λ c. let r = c .before .before .before .before .before in
+    let p = r .before in
+    four-refused-3 _ _ _ _ _ (first (to-first p)) (second p) _ (refused-table (r .read-table3) (c .before .status3 .given .1)))
+    (λ c. let r = c .before .before .before .before .before in
+    let p = to-second (r .before) in
+    omega (arith, first (to-first p) .long, second p .long, third (r .before) .long, r .read-table4 .kept))
+    (λ c. let r = c .before .before .before .before .before in
+    let p = to-second (r .before) in
+    let q = refused-table (r .read-table4) (c .before .status4 .given .1) in
+    four-refused-4 _ _ _ _ _ (first (to-first p)) (second p) (third (r .before)) _ q)
+    (λ c. let r = c .before .before .before .before .before in
+    let p = to-second (r .before) in
+    omega (arith, first (to-first p) .long, second p .long, third (r .before) .long, r .read-table4 .kept))
+    (λ c. let r = c .before .before .before .before .before in
+    let p = to-second (r .before) in
+    let fourth = told-table (r .read-table4) (third (r .before) .room) (c .before .fourth .given) refl in
+    four-answers _ _ _ _ _ (first (to-first p)) (second p) (third (r .before)) fourth))

@@ -1,14 +1,48 @@
 -- `read_listing`: blocks, then code, then the unit ends, then the blocks are judged.
-use mathlib.Core.Path.{sym, _∙_}
+use mathlib.Core.Path.{refl, sym, _∙_}
 use native.Mathlib.Omega.{arith}
+use Rattle.definitions.specs.CompiledUnit.{Head}
 use Rattle.unit.specs.Filled.{headOf}
 use Rattle.unit.proofs.TableLoop.{got-next, got-refused}
-use Rattle.unit.proofs.Filling.{room-after, room-later, within, got-table, refused-table, table-end}
-use Rattle.unit.specs.Stand.{due-got}
-use Rattle.unit.proofs.Listed.{listing-refused, listing-refused-1, listing-refused-2, listing-refused-3, listing-refused-4, listing-trailing, blocks-at, listing-answers}
+use Rattle.unit.proofs.Calls.{ToldTable, told-table, refused-table, ToldDue, told-due, refused-due, ToldCode, told-code, refused-code}
+use Rattle.unit.proofs.Listed.{code-room, blocks-at, listing-trailing, listing-answers}
+use Rattle.unit.proofs.Listed.{listing-refused-1, listing-refused-2, listing-refused-3, listing-refused-4}
 use borrow.Author.Needs.{needs}
 use Rattle.unit.proofs.read_listing.Statement.{statement}
 use Rattle.unit.proofs.read_listing.Tie as tie
+
+-- from the place where the code is known to that before it is read, and to the function's entry
+abbrev back : tie.After-code → tie.After-end
+back c = c .before .before .before .before .before
+
+abbrev entry : tie.After-end → tie.Start
+entry c = c .before .before .before .before .before .before .before .before .before .before .before .before .before .before .before
+
+abbrev head : tie.After-end → Head
+head c = headOf (entry c .args .head)
+
+-- what was told of the blocks, of the command behind them, and of the code
+blocks :
+    (c : tie.After-end) →
+    let k = c .before .before .before .before .before .before .before in
+    ToldTable (k .before .before .before .before .read-table) (k .blocks2 .given) (c .end .result)
+blocks c =
+    let k = c .before .before .before .before .before .before .before in
+    told-table (k .before .before .before .before .read-table) (entry c .pre) (k .blocks2 .given) (c .end .ensures)
+
+command : (c : tie.After-end) → ToldDue (c .before .before .before .before .before .read-due) (c .before .before .before .at-code .given .0 .0)
+command c = told-due (c .before .before .before .before .before .read-due) (c .before .before .before .at-code .given .1)
+
+code : (c : tie.After-code) → ToldCode (head (back c)) (c .before .before .before .before .read-code) (c .code .given)
+code c =
+    let room = code-room _ _ _ (blocks (back c)) (command (back c)) in
+    told-code (head (back c)) (c .before .before .before .before .read-code) room (c .code .given)
+
+-- the blocks stand where the index says
+abbrev stand : tie.Need-check-blocks-requires
+stand c κs =
+    let k = c .before .before .before .before .before in
+    blocks-at _ _ _ (blocks (back k)) (command (back k)) (code k) (c .before .before .before .if1 .left) (c .before .size .ensures)
 
 pub read-listing-spec : {M : Type 1} → statement M
 read-listing-spec =
@@ -21,54 +55,40 @@ read-listing-spec =
     (λ c. search needs)
     (λ c. search needs)
     (λ c κs. search needs)
-    (λ c κs. let g1 = got-table _ _ (c .before .before .before .before .before .before .before .before .before .before .before .read-table .ensures .0) _ _ _ (c .before .before .before .before .before .before .before .before .before .before .before .read-table .ensures .1) (c .before .before .before .before .before .before .before .blocks2 .given .1) in
-    let d = got-next _ _ (sym (c .before .before .before .before .before .read-due .ensures) ∙ c .before .before .before .at-code .given .1) in
-    let e = due-got _ _ _ _ (d .1) in
-    room-later (room-after (g1 .filled) (c .before .before .before .before .before .before .before .before .before .before .before .before .before .before .before .pre) (omega (arith, c .before .before .before .before .before .before .before .before .before .before .before .read-table .kept)) _ (table-end g1 (c .end .ensures))) (omega arith) (omega arith))
+    (λ c κs. code-room _ _ _ (blocks c) (command c))
     (λ c. search needs)
     (λ c. search needs)
     (λ c. search needs)
-    (λ c. let h = headOf (c .before .before .before .before .before .before .before .before .before .before .before .before .before .before .before .before .before .before .before .before .before .before .args .head) in
-    let g1 = got-table _ _ (c .before .before .before .before .before .before .before .before .before .before .before .before .before .before .before .before .before .before .read-table .ensures .0) _ _ _ (c .before .before .before .before .before .before .before .before .before .before .before .before .before .before .before .before .before .before .read-table .ensures .1) (c .before .before .before .before .before .before .before .before .before .before .before .before .before .before .blocks2 .given .1) in
-    let d = got-next _ _ (sym (c .before .before .before .before .before .before .before .before .before .before .before .before .read-due .ensures) ∙ c .before .before .before .before .before .before .before .before .before .before .at-code .given .1) in
-    let g2 = got-table _ _ (c .before .before .before .before .before .before .read-code .ensures .answers h) _ _ _ (c .before .before .before .before .before .before .read-code .ensures .fills h) (c .before .before .code .given .1) in
-    listing-refused _ _ _ _ _ (listing-trailing _ _ _ g1 (d .1) g2 (c .if1 .taken)))
+    (λ c. let k = c .before .before in
+    listing-trailing _ _ _ (blocks (back k)) (command (back k)) (code k) _ (c .if1 .taken))
     (λ c κs. search needs)
     (λ c κs. search needs)
-    (λ c κs. let h = headOf (c .before .before .before .before .before .before .before .before .before .before .before .before .before .before .before .before .before .before .before .before .before .before .before .before .before .args .head) in
-    let g1 = got-table _ _ (c .before .before .before .before .before .before .before .before .before .before .before .before .before .before .before .before .before .before .before .before .before .read-table .ensures .0) _ _ _ (c .before .before .before .before .before .before .before .before .before .before .before .before .before .before .before .before .before .before .before .before .before .read-table .ensures .1) (c .before .before .before .before .before .before .before .before .before .before .before .before .before .before .before .before .before .blocks2 .given .1) in
-    let d = got-next _ _ (sym (c .before .before .before .before .before .before .before .before .before .before .before .before .before .before .before .read-due .ensures) ∙ c .before .before .before .before .before .before .before .before .before .before .before .before .before .at-code .given .1) in
-    let g2 = got-table _ _ (c .before .before .before .before .before .before .before .before .before .read-code .ensures .answers h) _ _ _ (c .before .before .before .before .before .before .before .before .before .read-code .ensures .fills h) (c .before .before .before .before .before .code .given .1) in
-    let room = c .before .before .before .before .before .before .before .before .before .before .before .before .before .before .before .before .before .before .before .before .before .before .before .before .before .pre in
-    blocks-at _ _ _ g1 (d .1) g2 (c .before .before .before .if1 .left) (c .before .before .before .before .before .before .before .before .before .before .end .ensures) (within room) (c .before .size .ensures))
+    stand
     (λ c. search needs)
     (λ c. search needs)
     (λ c. search needs)
-    (λ c. listing-refused _ _ _ _ _ (listing-refused-1 _ _ _ (refused-table _ _ (c .before .before .before .before .before .read-table .ensures .0) (c .before .status .given .1))))
+    (λ c. let r = c .before .before .before .before .before in
+    listing-refused-1 _ _ _ _ _ _ (refused-table (r .read-table) (c .before .status .given .1)))
     (λ c. search needs)
-    (λ c. let g1 = got-table _ _ (c .before .before .before .before .before .before .before .before .before .read-table .ensures .0) _ _ _ (c .before .before .before .before .before .before .before .before .before .read-table .ensures .1) (c .before .before .before .before .before .blocks2 .given .1) in
-    listing-refused _ _ _ _ _ (listing-refused-2 _ _ _ g1 (got-refused _ _ _ (sym (c .before .before .before .read-due .ensures) ∙ c .before .status2 .given .1))))
+    (λ c. let d = c .before .before .before in
+    let b = d .before .before in
+    let r = b .before .before .before .before in
+    let g = told-table (r .read-table) (r .before .before .before .before .pre) (b .blocks2 .given) refl in
+    listing-refused-2 _ _ _ g _ (refused-due (d .read-due) (c .before .status2 .given .1)))
     (λ c. search needs)
-    (λ c. let h = headOf (c .before .before .before .before .before .before .before .before .before .before .before .before .before .before .before .before .before .before .before .before .before .args .head) in
-    let g1 = got-table _ _ (c .before .before .before .before .before .before .before .before .before .before .before .before .before .before .before .before .before .read-table .ensures .0) _ _ _ (c .before .before .before .before .before .before .before .before .before .before .before .before .before .before .before .before .before .read-table .ensures .1) (c .before .before .before .before .before .before .before .before .before .before .before .before .before .blocks2 .given .1) in
-    let d = got-next _ _ (sym (c .before .before .before .before .before .before .before .before .before .before .before .read-due .ensures) ∙ c .before .before .before .before .before .before .before .before .before .at-code .given .1) in
-    listing-refused _ _ _ _ _ (listing-refused-3 _ _ _ g1 (d .1) (refused-table _ _ (c .before .before .before .before .before .read-code .ensures .answers h) (c .before .status3 .given .1))))
-    (λ c. omega (arith, c .before .before .before .before .before .before .before .before .before .before .before .before .before .read-code .kept, c .before .before .before .before .before .before .before .before .before .before .before .before .before .before .before .before .before .before .before .before .before .before .before .before .before .read-table .kept))
-    (λ c. let h = headOf (c .before .before .before .before .before .before .before .before .before .before .before .before .before .before .before .before .before .before .before .before .before .before .before .before .before .before .before .before .before .args .head) in
-    let g1 = got-table _ _ (c .before .before .before .before .before .before .before .before .before .before .before .before .before .before .before .before .before .before .before .before .before .before .before .before .before .read-table .ensures .0) _ _ _ (c .before .before .before .before .before .before .before .before .before .before .before .before .before .before .before .before .before .before .before .before .before .before .before .before .before .read-table .ensures .1) (c .before .before .before .before .before .before .before .before .before .before .before .before .before .before .before .before .before .before .before .before .before .blocks2 .given .1) in
-    let d = got-next _ _ (sym (c .before .before .before .before .before .before .before .before .before .before .before .before .before .before .before .before .before .before .before .read-due .ensures) ∙ c .before .before .before .before .before .before .before .before .before .before .before .before .before .before .before .before .before .at-code .given .1) in
-    let g2 = got-table _ _ (c .before .before .before .before .before .before .before .before .before .before .before .before .before .read-code .ensures .answers h) _ _ _ (c .before .before .before .before .before .before .before .before .before .before .before .before .before .read-code .ensures .fills h) (c .before .before .before .before .before .before .before .before .before .code .given .1) in
-    let room = c .before .before .before .before .before .before .before .before .before .before .before .before .before .before .before .before .before .before .before .before .before .before .before .before .before .before .before .before .before .pre in
-    let l = within room in
-    let b = blocks-at _ _ _ g1 (d .1) g2 (c .before .before .before .before .before .before .before .if1 .left) (c .before .before .before .before .before .before .before .before .before .before .before .before .before .before .end .ensures) l (c .before .before .before .before .before .size .ensures) in
-    listing-refused _ _ _ _ _ (listing-refused-4 _ _ _ g1 (d .1) g2 (c .before .before .before .before .before .before .before .if1 .left) (c .before .before .before .before .before .before .before .before .before .before .before .before .before .before .end .ensures) l (c .before .before .before .before .before .size .ensures) (c .before .before .before .before .size2 .ensures) (got-refused _ _ _ (sym (c .before .before .before .check-blocks .ensures b) ∙ c .before .status4 .given .1))))
+    (λ c. let r = c .before .before .before .before .before in
+    let e = r .before in
+    listing-refused-3 _ _ _ (blocks e) (command e) _ (refused-code (head e) (r .read-code) (c .before .status3 .given .1)))
+    (λ c. let k = c .before .before .before .before .before .before .before .before .before in
+    omega (arith, blocks (back k) .long, code k .long))
+    (λ c. let z = c .before .before .before .before in
+    let k = z .before .before .before .before .before in
+    let r = c .before .before .before .check-blocks in
+    listing-refused-4 _ _ _ (blocks (back k)) (command (back k)) (code k) (z .before .before .before .if1 .left)
+    (z .before .size .ensures) (z .size2 .ensures) _ (got-refused _ _ _ (sym (r .ensures (stand z (r .lifetimes))) ∙ c .before .status4 .given .1)))
     (λ c. search needs)
-    (λ c. let h = headOf (c .before .before .before .before .before .before .before .before .before .before .before .before .before .before .before .before .before .before .before .before .before .before .before .before .before .before .before .before .before .args .head) in
-    let g1 = got-table _ _ (c .before .before .before .before .before .before .before .before .before .before .before .before .before .before .before .before .before .before .before .before .before .before .before .before .before .read-table .ensures .0) _ _ _ (c .before .before .before .before .before .before .before .before .before .before .before .before .before .before .before .before .before .before .before .before .before .before .before .before .before .read-table .ensures .1) (c .before .before .before .before .before .before .before .before .before .before .before .before .before .before .before .before .before .before .before .before .before .blocks2 .given .1) in
-    let d = got-next _ _ (sym (c .before .before .before .before .before .before .before .before .before .before .before .before .before .before .before .before .before .before .before .read-due .ensures) ∙ c .before .before .before .before .before .before .before .before .before .before .before .before .before .before .before .before .before .at-code .given .1) in
-    let g2 = got-table _ _ (c .before .before .before .before .before .before .before .before .before .before .before .before .before .read-code .ensures .answers h) _ _ _ (c .before .before .before .before .before .before .before .before .before .before .before .before .before .read-code .ensures .fills h) (c .before .before .before .before .before .before .before .before .before .code .given .1) in
-    let room = c .before .before .before .before .before .before .before .before .before .before .before .before .before .before .before .before .before .before .before .before .before .before .before .before .before .before .before .before .before .pre in
-    let l = within room in
-    let b = blocks-at _ _ _ g1 (d .1) g2 (c .before .before .before .before .before .before .before .if1 .left) (c .before .before .before .before .before .before .before .before .before .before .before .before .before .before .end .ensures) l (c .before .before .before .before .before .size .ensures) in
-    let q = got-next _ _ (sym (c .before .before .before .check-blocks .ensures b) ∙ c .before .next .given .1) in
-    listing-answers _ _ _ g1 (d .1) g2 (c .before .before .before .before .before .before .before .if1 .left) (c .before .before .before .before .before .before .before .before .before .before .before .before .before .before .end .ensures) l (c .before .before .before .before .before .size .ensures) (c .before .before .before .before .size2 .ensures) (q .1)))
+    (λ c. let z = c .before .before .before .before in
+    let k = z .before .before .before .before .before in
+    let r = c .before .before .before .check-blocks in
+    listing-answers _ _ _ (blocks (back k)) (command (back k)) (code k) (z .before .before .before .if1 .left)
+    (z .before .size .ensures) (z .size2 .ensures) (got-next _ _ (sym (r .ensures (stand z (r .lifetimes))) ∙ c .before .next .given .1) .1)))
