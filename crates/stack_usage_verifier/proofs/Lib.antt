@@ -1,4 +1,2 @@
-pub mod Table
 pub mod Heights
-pub mod Looked
 pub mod Blocks

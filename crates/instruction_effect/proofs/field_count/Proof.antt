@@ -1,9 +1,9 @@
 -- The count of the fields of a definition that was found, or its refusal.
 use Rattle.definitions.specs.StackUsage.{fieldCountAt}
-use Rattle.stack_usage_verifier.proofs.Looked.{definition-told}
+use Rattle.instruction_effect.proofs.Looked.{definition-told}
 use borrow.Author.Needs.{needs}
-use Rattle.stack_usage_verifier.proofs.field_count.Statement.{statement}
-use Rattle.stack_usage_verifier.proofs.field_count.Tie as tie
+use Rattle.instruction_effect.proofs.field_count.Statement.{statement}
+use Rattle.instruction_effect.proofs.field_count.Tie as tie
 
 enum-told : tie.Need-enum-told
 enum-told c = search needs

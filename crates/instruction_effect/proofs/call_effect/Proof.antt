@@ -1,9 +1,9 @@
 -- The counts of the two signatures, looked up one after the other.
 use mathlib.Core.Path.{_∙_}
-use Rattle.stack_usage_verifier.proofs.Looked.{refused, found, signature-told, call-by-counts}
+use Rattle.instruction_effect.proofs.Looked.{refused, found, signature-told, call-by-counts}
 use borrow.Author.Needs.{needs}
-use Rattle.stack_usage_verifier.proofs.call_effect.Statement.{statement}
-use Rattle.stack_usage_verifier.proofs.call_effect.Tie as tie
+use Rattle.instruction_effect.proofs.call_effect.Statement.{statement}
+use Rattle.instruction_effect.proofs.call_effect.Tie as tie
 
 returns : tie.Need-returns
 returns c p = refused _ (signature-told _ (c .before .before .before .signature-at .ensures p) (c .before .status .given .1)) ∙ call-by-counts _ _

@@ -12,7 +12,7 @@ use Rattle.definitions.specs.Result.{Result, ok, err}
 use Rattle.definitions.specs.CompiledUnit.{CompiledUnit}
 use Rattle.definitions.specs.StackUsage.{Effect, instructionEffect}
 use Rattle.record_views.specs.Records.{instructionOf}
-use Rattle.stack_usage_verifier.specs.Effects.{looksUp, pairOf, EffectTable}
+use Rattle.instruction_effect.specs.Effects.{looksUp, pairOf, EffectTable}
 
 and-left : (a b : Bool) → T (a && b) → T a
 and-left true b t = tt

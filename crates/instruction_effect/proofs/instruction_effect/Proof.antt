@@ -1,9 +1,9 @@
 -- The entry of the opcode that stands there, and the look-up where it is marked.
 use native.Mathlib.Omega.{arith}
-use Rattle.stack_usage_verifier.proofs.Looked.{marked, in-table}
+use Rattle.instruction_effect.proofs.Looked.{marked, in-table}
 use borrow.Author.Needs.{needs}
-use Rattle.stack_usage_verifier.proofs.instruction_effect.Statement.{statement}
-use Rattle.stack_usage_verifier.proofs.instruction_effect.Tie as tie
+use Rattle.instruction_effect.proofs.instruction_effect.Statement.{statement}
+use Rattle.instruction_effect.proofs.instruction_effect.Tie as tie
 
 pub instruction-effect-spec : {M : Type 1} → statement M
 instruction-effect-spec =

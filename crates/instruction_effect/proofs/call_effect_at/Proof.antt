@@ -1,10 +1,10 @@
 -- A handle that was found, or its refusal.
 use mathlib.Core.Path.{sym}
 use Rattle.handle_views.specs.Told.{function-handle, is-told}
-use Rattle.stack_usage_verifier.proofs.Looked.{refused, found}
+use Rattle.instruction_effect.proofs.Looked.{refused, found}
 use borrow.Author.Needs.{needs}
-use Rattle.stack_usage_verifier.proofs.call_effect_at.Statement.{statement}
-use Rattle.stack_usage_verifier.proofs.call_effect_at.Tie as tie
+use Rattle.instruction_effect.proofs.call_effect_at.Statement.{statement}
+use Rattle.instruction_effect.proofs.call_effect_at.Tie as tie
 
 pub call-effect-at-spec : {M : Type 1} → statement M
 call-effect-at-spec =

@@ -3,10 +3,10 @@ use mathlib.Core.Path.{refl}
 use Rattle.definitions.specs.Commands.{oneOf}
 use Rattle.definitions.specs.StackUsage.{instructionEffect}
 use Rattle.record_views.specs.Records.{instructionOf}
-use Rattle.stack_usage_verifier.specs.Effects.{looksUp}
-use Rattle.stack_usage_verifier.proofs.Table.{agrees, tested}
-use Rattle.stack_usage_verifier.proofs.effects.Statement.{statement}
-use Rattle.stack_usage_verifier.proofs.effects.Tie as tie
+use Rattle.instruction_effect.specs.Effects.{looksUp}
+use Rattle.instruction_effect.proofs.Table.{agrees, tested}
+use Rattle.instruction_effect.proofs.effects.Statement.{statement}
+use Rattle.instruction_effect.proofs.effects.Tie as tie
 
 returns : tie.Need-returns
 unfolding agrees looksUp oneOf instructionEffect instructionOf

@@ -3,10 +3,10 @@ use mathlib.Core.Path.{refl}
 use native.Mathlib.Omega.{arith}
 use Rattle.definitions.specs.StackUsage.{instructionEffect}
 use Rattle.record_views.specs.Records.{instructionOf}
-use Rattle.stack_usage_verifier.proofs.Looked.{looked-up, vec-unpack}
+use Rattle.instruction_effect.proofs.Looked.{looked-up, vec-unpack}
 use borrow.Author.Needs.{needs}
-use Rattle.stack_usage_verifier.proofs.looked_up_effect.Statement.{statement}
-use Rattle.stack_usage_verifier.proofs.looked_up_effect.Tie as tie
+use Rattle.instruction_effect.proofs.looked_up_effect.Statement.{statement}
+use Rattle.instruction_effect.proofs.looked_up_effect.Tie as tie
 
 returns : tie.Need-returns
 unfolding instructionOf instructionEffect

@@ -2,10 +2,10 @@
 use mathlib.Core.Path.{sym}
 use Rattle.handle_views.specs.Told.{struct-instantiation, is-told}
 use Rattle.definitions.specs.StackUsage.{fieldCountOfInstantiation}
-use Rattle.stack_usage_verifier.proofs.Looked.{refused, found}
+use Rattle.instruction_effect.proofs.Looked.{refused, found}
 use borrow.Author.Needs.{needs}
-use Rattle.stack_usage_verifier.proofs.field_count_of_instantiation.Statement.{statement}
-use Rattle.stack_usage_verifier.proofs.field_count_of_instantiation.Tie as tie
+use Rattle.instruction_effect.proofs.field_count_of_instantiation.Statement.{statement}
+use Rattle.instruction_effect.proofs.field_count_of_instantiation.Tie as tie
 
 returns : tie.Need-returns
 unfolding fieldCountOfInstantiation

@@ -20,9 +20,9 @@ use Rattle.unit_views.specs.declared.StructDefResult.{StructDefResult}
 use Rattle.record_views.specs.Records.{FieldsAre, instructionOf}
 use Rattle.code_views.specs.Answers.{InstructionAt, OpcodeAt}
 use Rattle.unit_views.specs.Answers.{SignatureIs, signatureAnswer, StructDefIs, structDefAnswer}
-use Rattle.stack_usage_verifier.specs.declared.EffectResult.{EffectResult}
-use Rattle.stack_usage_verifier.specs.Effects.{looksUp, EntryOf, EffectTable}
-use Rattle.stack_usage_verifier.specs.Answers.{effectResult, InstructionEffectAt}
+use Rattle.instruction_effect.specs.declared.EffectResult.{EffectResult}
+use Rattle.instruction_effect.specs.Effects.{looksUp, EntryOf, EffectTable}
+use Rattle.instruction_effect.specs.Answers.{effectResult, InstructionEffectAt}
 
 module _ {A B : Type 0} (f : A → Result B) {x : Result A} where
   -- a refusal stays
