@@ -1,4 +1,4 @@
--- The readers of this crate's functions, where the definitions have no name for one; what follows a type's command and an opcode.
+-- The readers of this crate's functions, where the definitions have no name for one; what follows a type's command.
 use mathlib.Core.Path.{_≡_}
 use mathlib.Core.Bool.{Bool, true, false}
 use mathlib.Core.List.{List}
@@ -6,7 +6,7 @@ use Prim.Native.Nat.{ℕ, _+_, _<_}
 use lib.Dec.{eqb}
 use lib.ListN.{length, getD}
 use Rattle.definitions.specs.Reading.{Reader, _>>=_, byte, many}
-use Rattle.definitions.specs.Commands.{TypeCommand, leaf, over, instantiation, typeCommands, InstructionForm, plain, unkept, local, instructionForms, Commands, commandsOf}
+use Rattle.definitions.specs.Commands.{TypeCommand, leaf, over, instantiation, typeCommands, Commands, commandsOf}
 use Rattle.definitions.specs.CompiledUnit.{Head}
 use Rattle.definitions.specs.Reader.{type, typeWithin, types, structHandle, pairOf, structDefinition}
 use Rattle.record_reader.specs.ReadTo.{forget, readTo}
@@ -51,20 +51,3 @@ typeShape c = shapeOf (getD typeCommands c TypeCommand.unknown)
 pub record LeafPassed (s : List ℕ) (at levels : ℕ) (r : Bool) : Type 0 where
   pub within : r ≡ true → at < length s
   pub passes : r ≡ true → (head : Head) → Next (at + 1) ≡ readTo (typeWithin (commandsOf head) levels s at)
-
--- how many bytes stand after an opcode
-unfoldable pub widthOf : InstructionForm → ℕ
-widthOf (plain i) = 0
-widthOf (unkept n i) = n
-widthOf (local f) = 1
-widthOf (InstructionForm.index f) = 2
-widthOf (InstructionForm.counted f) = 10
-widthOf InstructionForm.unknown = 0
-
-unfoldable pub operandWidth : ℕ → ℕ
-operandWidth opcode = widthOf (getD instructionForms opcode InstructionForm.unknown)
-
--- each of the table's entries is how many bytes stand after the opcode at its place
-pub record WidthTable (table : List ℕ) : Type 0 where
-  pub size : length table ≡ 71
-  pub entry : (opcode : ℕ) → opcode < 71 → getD table opcode 0 ≡ operandWidth opcode

@@ -18,7 +18,7 @@ use Rattle.definitions.specs.Reader.{type, types, byteUpTo, fieldInformation, s
 use Rattle.record_reader.specs.ReadTo.{readTo}
 use Rattle.record_reader.specs.declared.ReadTo.the-variants.{Next}
 use Rattle.record_reader.specs.Alike.{skip-short, number-takes}
-use Rattle.record_reader.specs.Bodies.{widthOf, operandWidth}
+use Rattle.instruction_reader.specs.Widths.{widthOf, operandWidth}
 use Rattle.record_reader.specs.BodyLaws.{same-instructions}
 use Rattle.record_reader.specs.Apart.{parts, made, byte-read, u16Of, u16-read, numberOf, OperandsAt, plain-at, unkept-at, local-at, index-at, counted-at, instruction-read}
 use Rattle.record_reader.specs.Sound.{types-sound}

@@ -105,7 +105,7 @@ fn instruction_by_width(s: &[u8], at: usize) -> Instruction
     ensures { λ r. ⌜ ((p : InstructionHere (now (s .entry)) at) → InstructionIs p r) ⌝ }
 {
     let opcode = s[at];
-    match record_reader::operand_width(wide(opcode)) {
+    match instruction_reader::operand_width(wide(opcode)) {
         1 => Instruction {
             opcode: opcode,
             local: s[at + 1],

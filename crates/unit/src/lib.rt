@@ -269,11 +269,11 @@ fn read_code(s: &[u8], from: usize, index: &mut [u16], base: usize) -> ReadTable
         return ReadTable::Refused(StatusCode::SHORT, s.len());
     }
     let count = record_reader::u16_at(s, from);
-    let widths = record_reader::operand_widths();
+    let widths = instruction_reader::operand_widths();
     let mut at = from + 1 + 1;
     let mut n = 0usize;
     while n < count {
-        match record_reader::read_instruction(s, at, &widths) {
+        match instruction_reader::read_instruction(s, at, &widths) {
             ReadTo::Refused(status, p) => {
                 return ReadTable::Refused(status, p);
             }

@@ -1,7 +1,7 @@
 -- `instruction_by_width`: the answer is the instruction that was read there; its operands go by how many bytes they take.
 use mathlib.Core.Path.{refl, sym, ap, _∙_}
 use native.Mathlib.Omega.{arith}
-use Rattle.record_reader.specs.Bodies.{operandWidth}
+use Rattle.instruction_reader.specs.Widths.{operandWidth}
 use Rattle.record_reader.specs.Apart.{numberOf}
 use Rattle.record_views.specs.Reread.{reread, is-here}
 use borrow.Author.Needs.{needs}

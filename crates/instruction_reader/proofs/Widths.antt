@@ -6,8 +6,8 @@ use Prim.Native.Nat.{ℕ}
 use native.Mathlib.Omega.{arith}
 use lib.Dec.{T, eqb, eqb→eq}
 use lib.ListN.{length, getD}
-use Rattle.record_reader.specs.Bodies.{operandWidth, WidthTable}
-use Rattle.record_reader.proofs.Table.{every, at}
+use Rattle.instruction_reader.specs.Widths.{operandWidth, WidthTable}
+use Rattle.instruction_reader.proofs.Table.{every, at}
 
 -- an entry is the width of the opcode at its place
 abbrev pub agrees : ℕ → ℕ → Bool

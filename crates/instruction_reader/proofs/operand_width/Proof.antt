@@ -2,11 +2,11 @@
 use mathlib.Core.Path.{refl, _∙_}
 use Prim.Native.Nat.{ℕ}
 use mathlib.Core.List.{List, [], _∷_}
-use Rattle.record_reader.specs.Bodies.{operandWidth, widthOf}
-use Rattle.record_reader.proofs.Widths.{tested}
+use Rattle.instruction_reader.specs.Widths.{operandWidth, widthOf}
+use Rattle.instruction_reader.proofs.Widths.{tested}
 use borrow.Author.Needs.{needs}
-use Rattle.record_reader.proofs.operand_width.Statement.{statement}
-use Rattle.record_reader.proofs.operand_width.Tie as tie
+use Rattle.instruction_reader.proofs.operand_width.Statement.{statement}
+use Rattle.instruction_reader.proofs.operand_width.Tie as tie
 
 -- the table of the code
 widths : List ℕ

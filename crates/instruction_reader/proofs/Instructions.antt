@@ -1,5 +1,5 @@
 -- An instruction: what follows an opcode is as many bytes as the table says.
-use mathlib.Core.Path.{_≡_, sym}
+use mathlib.Core.Path.{_≡_, sym, ap, _∙_}
 use mathlib.Core.Bool.{Bool, true, false}
 use mathlib.Core.List.{List}
 use Prim.Native.Nat.{ℕ, _+_, _≤_, _<_}
@@ -12,12 +12,12 @@ use Rattle.definitions.specs.CompiledUnit.{Head}
 use Rattle.definitions.specs.Reading.{next, _>>=_, _>>_, give, fail, here, skip}
 use Rattle.definitions.specs.Commands.{InstructionForm, plain, unkept, local, commandsOf, instructionForms}
 use Rattle.definitions.specs.Reader.{operands, instruction}
-use Rattle.record_reader.specs.declared.ReadTo.the-variants.{Refused}
+use Rattle.record_reader.specs.declared.ReadTo.the-variants.{Next, Refused}
 use Rattle.record_reader.specs.ReadTo.{readTo}
-use Rattle.record_reader.specs.Alike.{byte-next, byte-short, skip-next, alike-map, map-alike, byte-takes, u16-takes, number-takes, takes-then}
-use Rattle.record_reader.specs.Bodies.{widthOf, operandWidth}
+use Rattle.record_reader.specs.Alike.{byte-next, byte-short, skip-next, skip-short, alike-map, map-alike, byte-takes, u16-takes, number-takes, takes-then}
+use Rattle.instruction_reader.specs.Widths.{widthOf, operandWidth}
 use Rattle.record_reader.specs.BodyLaws.{same-instructions}
-use Rattle.record_reader.proofs.Table.{at}
+use Rattle.instruction_reader.proofs.Table.{at}
 
 known : InstructionForm → Bool
 known (plain i) = true
@@ -55,9 +55,17 @@ module _ (head : Head) (s : List ℕ) (at′ : ℕ) where
     instruction-unknown h =
         rw (byte-next s at′ within, same-instructions head (getD s at′ 0), List·getD-eq-default instructionForms InstructionForm.unknown h)
 
-    pub instruction-taken :
-        getD s at′ 0 < 71 → readTo (skip (operandWidth (getD s at′ 0)) s (at′ + 1)) ≡ readTo (instruction (commandsOf head) s at′)
-    unfolding instruction _>>=_ next here operandWidth
-    instruction-taken h =
-        rw (byte-next s at′ within, same-instructions head (getD s at′ 0))
-        (sym (operands-taken at′ (getD instructionForms (getD s at′ 0) InstructionForm.unknown) s (at′ + 1) (all-known (getD s at′ 0) h) (omega arith)))
+    module _ (is-known : getD s at′ 0 < 71) {width : ℕ} (is-width : width ≡ operandWidth (getD s at′ 0)) where
+      by-width : readTo (skip width s (at′ + 1)) ≡ readTo (instruction (commandsOf head) s at′)
+      unfolding instruction _>>=_ next here operandWidth
+      by-width =
+          rw (is-width, byte-next s at′ within, same-instructions head (getD s at′ 0))
+          (sym (operands-taken at′ (getD instructionForms (getD s at′ 0) InstructionForm.unknown) s (at′ + 1) (all-known (getD s at′ 0) is-known) (omega arith)))
+
+      pub instruction-cut : length s < at′ + 1 + width → Refused SHORT (length s) ≡ readTo (instruction (commandsOf head) s at′)
+      unfolding readTo
+      instruction-cut h = sym (ap readTo (skip-short s (at′ + 1) width h)) ∙ by-width
+
+      pub instruction-taken : at′ + 1 + width ≤ length s → Next (at′ + 1 + width) ≡ readTo (instruction (commandsOf head) s at′)
+      unfolding readTo
+      instruction-taken h = sym (ap readTo (skip-next s (at′ + 1) width h)) ∙ by-width
