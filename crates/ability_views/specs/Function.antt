@@ -23,9 +23,8 @@ use Rattle.record_views.specs.Reread.{types-at}
 use Rattle.binary_views.specs.Handles.{HandlesAt, byteUpTo-read}
 use Rattle.binary_views.specs.Abilities.{AbilitiesAt, MaterializedAbilities}
 use Rattle.unit.specs.declared.View.{View}
-use Rattle.unit.specs.Outline.{starts, placesOf}
-use Rattle.unit.specs.Entries.{segments, joined, starts-joined}
-use Rattle.unit.specs.Views.{UnitRead, viewOf, startsOf}
+use Rattle.unit.specs.Outline.{starts, joined}
+use Rattle.unit.specs.Views.{UnitRead, segments, viewOf}
 use Rattle.ability_views.specs.declared.AbilityContext.{AbilityContext}
 use Rattle.unit_tables.specs.Tables.{stand}
 use Rattle.function_views.specs.Named.{signature-read}
@@ -94,14 +93,14 @@ module _ {s index : List ℕ} {view : View} (u : UnitRead s index view) where
   -- ── the struct handles ──
 
   handles-count : view .«struct_handles» .count ≡ length (starts (u .decoded .structHandles))
-  unfolding viewOf placesOf
+  unfolding viewOf
   handles-count = rw (u .viewed) refl
 
   handles-first : take (view .«struct_handles» .count) index ≡ starts (u .decoded .structHandles)
   unfolding joined
   handles-first =
-      let h : take (length (startsOf (u .decoded))) index ≡ starts (u .decoded .structHandles) ++ joined (drop 1 (segments (u .decoded))) = u .indexed ∙ starts-joined (u .decoded) in
-      rw handles-count (front-of (length (startsOf (u .decoded))) index (starts (u .decoded .structHandles)) (joined (drop 1 (segments (u .decoded)))) h)
+      let rest = joined (drop 1 (segments (u .decoded))) in
+      rw handles-count (front-of (length (joined (segments (u .decoded)))) index (starts (u .decoded .structHandles)) rest (u .indexed))
 
   -- ── the context of a look-up ──
 

@@ -13,9 +13,9 @@ use Rattle.record_views.specs.declared.Instruction.{Instruction}
 use Rattle.record_views.specs.Records.{InstructionHere, InstructionIs}
 use Rattle.record_views.specs.Reread.{reread, is-here}
 use Rattle.unit.specs.declared.View.{View}
-use Rattle.unit.specs.Outline.{starts, placesOf}
-use Rattle.unit.specs.Entries.{Has, segments, baseFrom, segment-at}
-use Rattle.unit.specs.Views.{UnitRead, viewOf}
+use Rattle.unit.specs.Outline.{starts, baseFrom}
+use Rattle.unit.specs.Entries.{Has, segment-at}
+use Rattle.unit.specs.Views.{UnitRead, segments, viewOf}
 use Rattle.code_views.specs.declared.Block.{Block}
 use Rattle.unit_tables.specs.Tables.{Fits, stand, blocks-in, found}
 use Rattle.code_views.specs.Answers.{blockOf, BlockAt, opcodeByte, InstructionAt, OpcodeAt}
@@ -53,9 +53,9 @@ nth-placed (x ∷ l) (suc i) a h = nth-placed l i a (omega arith)
 
 module _ {s index : List ℕ} {view : View} (u : UnitRead s index view) where
   code-entries : (i : ℕ) → i < view .code .count → Has index (view .code .base + i) (getD (starts (u .decoded .code)) i 0)
-  unfolding viewOf baseFrom placesOf
+  unfolding viewOf
   code-entries i h =
-      let b : view .code .base ≡ baseFrom 0 10 (segments (u .decoded)) = rw (u .viewed) (omega arith) in
+      let b : view .code .base ≡ baseFrom 0 10 (segments (u .decoded)) = rw (u .viewed) refl in
       let m : i < length (starts (u .decoded .code)) = rw (u .viewed) at h in
       rw b (segment-at u 10 i m)
 

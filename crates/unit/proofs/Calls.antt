@@ -1,107 +1,56 @@
 -- What a call of a function of the reader tells its caller, said of the call alone. Each part takes `call`, which is what the caller's place has
 -- under the function's name, finds the arguments in it by their position, and says of them what the function's contract says.
-use mathlib.Core.Path.{_≡_, refl, sym, _∙_}
+use mathlib.Core.Path.{_≡_, sym, _∙_}
 use mathlib.Core.List.{List}
-use Prim.Native.Nat.{ℕ, _+_}
+use Prim.Native.Nat.{ℕ}
 use native.Mathlib.Omega.{arith}
 use denote.Ref.{now}
 use borrow.Author.Called.{Called}
 use borrow.Fn.Args.{ArgsT, argsV}
-use borrow.Fn.Kinds.{RK, Out, Dens}
+use borrow.Fn.Kinds.{Dens}
 use borrow.Table.Row.{Cx}
 use borrow.Table.Typed.{Mo}
 use Rattle.status.specs.declared.StatusCode.{StatusCode}
 use Rattle.definitions.specs.CompiledUnit as defs
 use Rattle.definitions.specs.Reading.{Read, read, stop}
-use Rattle.definitions.specs.Commands.{Commands, commandsOf}
+use Rattle.definitions.specs.Commands.{commandsOf}
 use Rattle.definitions.specs.Reader as reader
 use Rattle.record_reader.specs.declared.ReadTo.the-variants.{Next, Refused}
-use Rattle.unit.specs.declared.Table.{Table}
-use Rattle.unit.specs.declared.Four.{Four}
 use Rattle.unit.specs.declared.ReadTable.{ReadTable}
-use Rattle.unit.specs.declared.ReadFour.{ReadFour}
-use Rattle.unit.specs.Outline.{places, recordPlaces, fourPlaces, FourPlaces}
+use Rattle.unit.specs.Outline.{places, recordPlaces}
 use Rattle.unit.specs.Filled.{Room, headOf}
 use Rattle.unit.proofs.TableLoop.{got-next, got-refused}
-use Rattle.unit.proofs.Filling.{GotTable, GotFour, got-it, table-read, table-stopped, four-read, four-stopped, four-counts}
+use Rattle.unit.proofs.Filling.{Got, got-it, got-stop}
 use Rattle.unit.proofs.read_table.Kinds as kinds
 use Rattle.unit.proofs.read_table.Reads as table
-use Rattle.unit.proofs.read_four.Kinds as four-kinds
-use Rattle.unit.proofs.read_four.Reads as four
 use Rattle.unit.proofs.read_due.Kinds as due-kinds
 use Rattle.unit.proofs.read_due.Reads as due
 use Rattle.unit.proofs.read_code.Kinds as code-kinds
 use Rattle.unit.proofs.read_code.Reads as code
 
--- that an answer is a table and the next byte, or four tables and the next byte, as a `match` gives it
+-- that an answer is how many there are and the next byte, as a `match` gives it
 abbrev Records : ReadTable → Type 0
-Records r = (v : Table × (ℕ × Unit {0})) × (r ≡ ReadTable.Records (v .0) (v .1 .0))
+Records r = (v : ℕ × (ℕ × Unit {0})) × (r ≡ ReadTable.Records (v .0) (v .1 .0))
 
-abbrev Tables : ReadFour → Type 0
-Tables r = (v : Four × (ℕ × Unit {0})) × (r ≡ ReadFour.Tables (v .0) (v .1 .0))
+-- ── `read_table` ──
 
--- ── `read_table` and `read_four` ──
-
--- the arguments of both: the bytes, the byte to read from, the head, a command, the index, and where the entries begin
-module _ {R : RK 2} {Q : Out 2 kinds.ps R} {Γ : Cx} {ar : ArgsT kinds.ps (Γ .locals)} {u : Mo Γ} (call : Called kinds.ps R Q Γ ar u) where
+-- the arguments: the bytes, the byte to read from, the head, a command, the index, and where the entries begin
+module _ {Γ : Cx} {ar : ArgsT kinds.ps (Γ .locals)} {u : Mo Γ} (call : Called kinds.ps kinds.r table.Learnt Γ ar u) where
   abbrev given : Dens (call .lifetimes) kinds.ps
   given = argsV (call .lifetimes) kinds.ps (Γ .locals) ar u
 
-  abbrev bytes : List ℕ
-  bytes = now (given .0)
-
-  abbrev from : ℕ
-  from = given .1 .0
-
-  abbrev commands : Commands
-  commands = commandsOf (headOf (given .1 .1 .0))
-
-  abbrev command : ℕ
-  command = given .1 .1 .1 .0
-
-  -- the index at the call, and after it
-  abbrev before : List ℕ
-  before = now (given .1 .1 .1 .1 .0)
-
-  abbrev after : List ℕ
-  after = call .last .1 .1 .1 .1 .0
-
-  abbrev base : ℕ
-  base = given .1 .1 .1 .1 .1 .0
-
-  -- what both require
-  abbrev RoomFor : Type 0
-  RoomFor = Room bytes from base before
-
-module _ {Γ : Cx} {ar : ArgsT kinds.ps (Γ .locals)} {u : Mo Γ} (call : Called kinds.ps kinds.r table.Learnt Γ ar u) where
   abbrev records : Read (List ℕ)
-  records = recordPlaces (commands call) (command call) (bytes call) (from call)
+  records = recordPlaces (commandsOf (headOf (given .1 .1 .0))) (given .1 .1 .1 .0) (now (given .0)) (given .1 .0)
 
-  -- the table that was read, with the entries behind it beginning at b
-  abbrev pub ToldTable : Records (call .result) → ℕ → Type 0
-  ToldTable v b = GotTable (bytes call) (before call) (after call) (base call) records (v .0 .0) (v .0 .1 .0) b
+  -- the table that was read
+  abbrev pub ToldTable : Records (call .result) → Type 0
+  ToldTable v = Got (now (given .0)) (now (given .1 .1 .1 .1 .0)) (call .last .1 .1 .1 .1 .0) (given .1 .1 .1 .1 .1 .0) records (v .0 .0) (v .0 .1 .0)
 
-  pub told-table : RoomFor call → (v : Records (call .result)) {b : ℕ} → b ≡ v .0 .0 .base + v .0 .0 .count → ToldTable v b
-  told-table room v q =
-      got-it _ _ _ (λ b ps. refl) room (call .ensures .1) (omega (arith, call .kept)) (table-read (base call) records (sym (call .ensures .0) ∙ v .1)) q
+  pub told-table : Room (now (given .0)) (given .1 .0) (given .1 .1 .1 .1 .1 .0) (now (given .1 .1 .1 .1 .0)) → (v : Records (call .result)) → ToldTable v
+  told-table room v = got-it records room (call .ensures .1) (omega (arith, call .kept)) (sym (call .ensures .0) ∙ v .1)
 
   pub refused-table : {w : StatusCode} {p : ℕ} → call .result ≡ ReadTable.Refused w p → records ≡ stop w p
-  refused-table q = table-stopped (base call) records (sym (call .ensures .0) ∙ q)
-
-module _ {Γ : Cx} {ar : ArgsT kinds.ps (Γ .locals)} {u : Mo Γ} (call : Called kinds.ps four-kinds.r four.Learnt Γ ar u) where
-  abbrev records4 : Read FourPlaces
-  records4 = fourPlaces (commands call) (command call) (bytes call) (from call)
-
-  -- the same for four tables
-  abbrev pub ToldFour : Tables (call .result) → ℕ → Type 0
-  ToldFour v b = GotFour (bytes call) (before call) (after call) (base call) records4 (v .0 .0) (v .0 .1 .0) b
-
-  pub told-four : RoomFor call → (v : Tables (call .result)) {b : ℕ} → b ≡ v .0 .0 .fourth .base + v .0 .0 .fourth .count → ToldFour v b
-  told-four room v q =
-      got-it _ _ _ four-counts room (call .ensures .1) (omega (arith, call .kept)) (four-read (base call) records4 (sym (call .ensures .0) ∙ v .1)) q
-
-  pub refused-four : {w : StatusCode} {p : ℕ} → call .result ≡ ReadFour.Refused w p → records4 ≡ stop w p
-  refused-four q = four-stopped (base call) records4 (sym (call .ensures .0) ∙ q)
+  refused-table q = got-stop records (sym (call .ensures .0) ∙ q)
 
 -- ── `read_due` ──
 
@@ -136,14 +85,11 @@ module _ (h : defs.Head) {Γ : Cx} {ar : ArgsT code-kinds.ps (Γ .locals)} {u : 
   -- the code that was read
   abbrev pub ToldCode : Records (call .result) → Type 0
   ToldCode v =
-      GotTable (now (code-given .0)) (now (code-given .1 .1 .0)) (call .last .1 .1 .0) (code-given .1 .1 .1 .0) instructions (v .0 .0) (v .0 .1 .0)
-      (v .0 .0 .base + v .0 .0 .count)
+      Got (now (code-given .0)) (now (code-given .1 .1 .0)) (call .last .1 .1 .0) (code-given .1 .1 .1 .0) instructions (v .0 .0) (v .0 .1 .0)
 
   pub told-code :
       Room (now (code-given .0)) (code-given .1 .0) (code-given .1 .1 .1 .0) (now (code-given .1 .1 .0)) → (v : Records (call .result)) → ToldCode v
-  told-code room v =
-      let x = table-read _ instructions (sym (call .ensures .answers h) ∙ v .1) in
-      got-it _ _ _ (λ b ps. refl) room (call .ensures .fills h) (omega (arith, call .kept)) x refl
+  told-code room v = got-it instructions room (call .ensures .fills h) (omega (arith, call .kept)) (sym (call .ensures .answers h) ∙ v .1)
 
   pub refused-code : {w : StatusCode} {p : ℕ} → call .result ≡ ReadTable.Refused w p → instructions ≡ stop w p
-  refused-code q = table-stopped _ instructions (sym (call .ensures .answers h) ∙ q)
+  refused-code q = got-stop instructions (sym (call .ensures .answers h) ∙ q)

@@ -144,13 +144,12 @@ module _ (s : List ℕ) (from base : ℕ) (before after : List ℕ) where
       }
 
   pub code-answers-read :
-      {r : ReadTable} {at n count : ℕ} → ((head : Head) → InCode (instruction (commandsOf head)) s from base count before after at n) →
-      u16 s from ≡ read count (from + 1 + 1) → count ≤ n → r ≡ ReadTable.Records (record { base = base; count = n }) at →
-      CodeAnswered s from base before after r
-  code-answers-read {r} v q h e = record { answers = λ head. both head .0; fills = λ head. both head .1 }
+      {at n count : ℕ} → ((head : Head) → InCode (instruction (commandsOf head)) s from base count before after at n) →
+      u16 s from ≡ read count (from + 1 + 1) → count ≤ n → CodeAnswered s from base before after (ReadTable.Records n at)
+  code-answers-read {at} {n} v q h = record { answers = λ head. both head .0; fills = λ head. both head .1 }
     where
       both : (head : Head) →
-          (r ≡ tableOf base (places (code (commandsOf head)) s from)) × FilledBy (λ ps. ps) s base before (places (code (commandsOf head)) s from) after
+          (ReadTable.Records n at ≡ tableOf (places (code (commandsOf head)) s from)) × FilledBy (λ ps. ps) s base before (places (code (commandsOf head)) s from) after
       both head =
           answers-read s before after base (places (code (commandsOf head)) s from)
-          (code-reads s from (commandsOf head) q (code-done (v head) h)) (rw (starts-size (v head .acc) (v head .size)) e) (code-filled (v head))
+          (code-reads s from (commandsOf head) q (code-done (v head) h)) (starts-size (v head .acc) (v head .size)) (code-filled (v head))

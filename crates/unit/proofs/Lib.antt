@@ -1,6 +1,8 @@
 pub mod Known
 pub mod TableLoop
 pub mod Filling
+pub mod Rows
+pub mod TablesLoop
 pub mod CodeLoop
 pub mod Blocks
 pub mod Due

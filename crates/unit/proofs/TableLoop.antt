@@ -1,5 +1,5 @@
 -- The loop over the records of a table: what holds at its head, and what each way out of a turn says of the table.
-use mathlib.Core.Path.{_≡_, refl, ap, _∙_}
+use mathlib.Core.Path.{_≡_, refl, sym, ap, _∙_}
 use mathlib.Core.Bool.{true, false, _&&_}
 use mathlib.Core.List.{List, [], _∷_, _++_, append-assoc, append-nil, map-append}
 use Prim.Native.Nat.{ℕ, zero, suc, _+_, _-_, _≤_, _<_}
@@ -45,17 +45,17 @@ to-refused q = rw q
 
 module _ {A : Type 0} where
   -- what is read after those that were read before
-  unfoldable pub onto : List (Placed A) → Read (List (Placed A)) → Read (List (Placed A))
+  unfoldable pub onto : List A → Read (List A) → Read (List A)
   onto acc x = next x (λ l e. read (acc ++ l) e)
 
   pub onto-one :
-      (acc : List (Placed A)) (p : Placed A) (x : Read (List (Placed A))) →
+      (acc : List A) (p : A) (x : Read (List A)) →
       onto acc (next x (λ l e. read (p ∷ l) e)) ≡ onto (acc ++ (p ∷ [])) x
   unfolding onto next
   onto-one acc p (read l e) = simp append-assoc
   onto-one acc p (stop w q) = refl
 
-  pub onto-none : (x : Read (List (Placed A))) → x ≡ onto [] x
+  pub onto-none : (x : Read (List A)) → x ≡ onto [] x
   unfolding onto next
   onto-none (read l e) = refl
   onto-none (stop w q) = refl
@@ -152,13 +152,13 @@ module _ {A : Type 0} {body : Reader A} {s : List ℕ} {c from base : ℕ} {befo
 -- what the functions that fill the index with places promise: the answer is that of what is read, and so is the index
 module _ (s before after : List ℕ) (base : ℕ) (x : Read (List ℕ)) where
   pub answers-read :
-      {r : ReadTable} {ps : List ℕ} {e : ℕ} → x ≡ read ps e → r ≡ ReadTable.Records (record { base = base; count = length ps }) e →
-      Filled s base before ps e after → (r ≡ tableOf base x) × FilledBy (λ ps. ps) s base before x after
+      {n : ℕ} {ps : List ℕ} {e : ℕ} → x ≡ read ps e → length ps ≡ n → Filled s base before ps e after →
+      (ReadTable.Records n e ≡ tableOf x) × FilledBy (λ ps. ps) s base before x after
   unfolding tableOf FilledBy
-  answers-read q k f = rw q (k, f)
+  answers-read {n} {ps} {e} q k f = rw q (ap (λ (m : ℕ). ReadTable.Records m e) (sym k), f)
 
   pub answers-refused :
-      {w : StatusCode} {p : ℕ} → x ≡ stop w p → (ReadTable.Refused w p ≡ tableOf base x) × FilledBy (λ ps. ps) s base before x after
+      {w : StatusCode} {p : ℕ} → x ≡ stop w p → (ReadTable.Refused w p ≡ tableOf x) × FilledBy (λ ps. ps) s base before x after
   unfolding tableOf FilledBy
   answers-refused q = rw q (refl, tt)
 

@@ -1,7 +1,7 @@
 -- A unit under its head, and a whole unit, as the functions read them: one law for each way that they go.
 use mathlib.Core.Path.{_≡_, refl, sym, ap, _∙_}
-use mathlib.Core.List.{List, _++_}
-use Prim.Native.Nat.{ℕ, zero, suc, _+_, _≤_, _<_}
+use mathlib.Core.List.{List, _++_, append-assoc, append-nil}
+use Prim.Native.Nat.{ℕ, zero, suc, _+_, _-_, _≤_, _<_}
 use native.Mathlib.Omega.{arith}
 use borrow.Author.Tests.{le-leb, lt-leb}
 use lib.ListN.{length, getD, take, length-append, length-map}
@@ -12,80 +12,85 @@ use Rattle.definitions.specs.CompiledUnit as defs
 use Rattle.definitions.specs.Reading.{Read, read, stop, next, _>>=_, _>>_, give, fail, here}
 use Rattle.definitions.specs.Commands.{Commands, commandsOf}
 use Rattle.definitions.specs.Reader.{Decoded, items, due, functionView, unitUnder, unitAfterHead, headCommand, HeadCommand, unopened, unit, readUnit}
+use Rattle.record_reader.specs.declared.ReadTo.{ReadTo}
+use Rattle.record_reader.specs.declared.ReadTo.the-variants.{Next, Refused}
+use Rattle.record_reader.specs.ReadTo.{readTo}
 use Rattle.record_reader.specs.Alike.{byte-next, byte-short}
 use Rattle.record_reader.specs.Ends.{reads-within, functionView-reaches}
 use Rattle.unit.specs.declared.Head.{Head}
-use Rattle.unit.specs.declared.Tables.{Tables}
-use Rattle.unit.specs.declared.Listing.{Listing}
+use Rattle.unit.specs.declared.Table.{Table}
 use Rattle.unit.specs.declared.View.{View}
-use Rattle.unit.specs.declared.ReadTables.{ReadTables}
 use Rattle.unit.specs.declared.ReadListing.{ReadListing}
 use Rattle.unit.specs.declared.ReadUnit.{ReadUnit}
-use Rattle.unit.specs.Outline.{starts, tablePlaces, inTables, inFour, UnitTables, unitTables, placesOf, UnitListing, unitListing, inListing}
-use Rattle.unit.specs.Filled.{headOf, Room, Filled, FilledBy, tablesFrom, tablesOf, listingFrom, listingOf}
-use Rattle.unit.specs.Views.{headFor, viewFrom, afterTables, viewOf, startsOf, answerOf, Indexed}
+use Rattle.unit.specs.Outline.{starts, joined, baseFrom, tablePlaces, UnitTables, unitTables, placesOf, UnitListing, unitListing, inListing}
+use Rattle.unit.specs.Filled.{headOf, Room, Filled, FilledBy, Rows, RowsBy, listingOf}
+use Rattle.unit.specs.Views.{headFor, segments, tableIn, tableAt, Ordered, viewFrom, viewOf, answerOf, Indexed}
 use Rattle.unit.specs.Parts.{decoded, unitInParts, unit-in-parts, tables-forgotten}
-use Rattle.unit.proofs.Filling.{filled-then, room-after, room-later}
 use Rattle.unit.specs.Stand.{due-got}
+use Rattle.unit.proofs.Rows.{row, row-end, rows-ordered}
+use Rattle.unit.proofs.Filling.{filled-then, room-after, room-later}
 
 -- ── what the calls answered ──
 
 -- the tables were read
-pub record GotTables (s before after : List ℕ) (commands : Commands) (t : Tables) (e : ℕ) : Type 0 where
+pub record GotTables (s before after bases : List ℕ) (commands : Commands) (e : ℕ) : Type 0 where
   pub tables : UnitTables
   pub reads : unitTables commands s 1 ≡ read tables e
-  pub are : t ≡ tablesFrom (placesOf tables)
-  pub filled : Filled s 0 before (inTables (placesOf tables)) e after
+  pub rows : Rows bases (placesOf tables)
+  pub filled : Filled s 0 before (joined (placesOf tables)) e after
   pub long : length after ≡ length before
 
-module _ (s : List ℕ) (commands : Commands) {r : ReadTables} (q : r ≡ tablesOf (tablePlaces commands s 1)) where
+module _ (s : List ℕ) (commands : Commands) {r : ReadTo} (q : r ≡ readTo (tablePlaces commands s 1)) where
+  z : next (unitTables commands s 1) (λ t e. read (placesOf t) e) ≡ tablePlaces commands s 1
+  z = tables-forgotten commands s 1
+
   pub got-tables :
-      (before after : List ℕ) → FilledBy inTables s 0 before (tablePlaces commands s 1) after → length after ≡ length before →
-      {t : Tables} {e : ℕ} → r ≡ ReadTables.Tables t e → GotTables s before after commands t e
-  unfolding tablesOf FilledBy next
-  got-tables before after f long {t} {e} k = go (unitTables commands s 1) refl (q ∙ ap tablesOf (sym z)) (rw (← z) at f)
+      {before after bases : List ℕ} → FilledBy joined s 0 before (tablePlaces commands s 1) after → RowsBy (tablePlaces commands s 1) bases →
+      length after ≡ length before → {e : ℕ} → r ≡ Next e → GotTables s before after bases commands e
+  unfolding readTo FilledBy RowsBy next
+  got-tables {before} {after} {bases} f o long {e} k = go (unitTables commands s 1) refl (q ∙ ap readTo (sym z)) (rw (← z) at f) (rw (← z) at o)
     where
-      z : next (unitTables commands s 1) (λ t e. read (placesOf t) e) ≡ tablePlaces commands s 1
-      z = tables-forgotten commands s 1
-
-      go : (x : Read UnitTables) → unitTables commands s 1 ≡ x → r ≡ tablesOf (next x (λ t e. read (placesOf t) e)) →
-          FilledBy inTables s 0 before (next x (λ t e. read (placesOf t) e)) after → GotTables s before after commands t e
-      go (read u d) p q f =
+      go : (x : Read UnitTables) → unitTables commands s 1 ≡ x → r ≡ readTo (next x (λ t e. read (placesOf t) e)) →
+          FilledBy joined s 0 before (next x (λ t e. read (placesOf t) e)) after → RowsBy (next x (λ t e. read (placesOf t) e)) bases →
+          GotTables s before after bases commands e
+      go (read u d) p q f o =
           let y : d ≡ e = cc in
-          record { tables = u; reads = p ∙ ap (read u) y; are = cc; filled = rw y at f; long = long }
-      go (stop w o) p q f = let y : _≡_ {A = ℕ} 0 1 = cc in absurd (omega arith)
+          record { tables = u; reads = p ∙ ap (read u) y; rows = o; filled = rw y at f; long = long }
+      go (stop w v) p q f o = let y : _≡_ {A = ℕ} 0 1 = cc in absurd (omega arith)
 
-  pub refused-tables : {w : StatusCode} {p : ℕ} → r ≡ ReadTables.Refused w p → unitTables commands s 1 ≡ stop w p
-  unfolding tablesOf next
-  refused-tables {w} {p} k = go (unitTables commands s 1) (q ∙ ap tablesOf (sym (tables-forgotten commands s 1)))
+  pub refused-tables : {w : StatusCode} {p : ℕ} → r ≡ Refused w p → unitTables commands s 1 ≡ stop w p
+  unfolding readTo next
+  refused-tables {w} {p} k = go (unitTables commands s 1) (q ∙ ap readTo (sym z))
     where
-      go : (x : Read UnitTables) → r ≡ tablesOf (next x (λ t e. read (placesOf t) e)) → x ≡ stop w p
+      go : (x : Read UnitTables) → r ≡ readTo (next x (λ t e. read (placesOf t) e)) → x ≡ stop w p
       go (read u d) q = let y : _≡_ {A = ℕ} 0 1 = cc in absurd (omega arith)
       go (stop v o) q = cc
 
 -- the listing was read
-pub record GotListing (s before after : List ℕ) (base : ℕ) (x : Read UnitListing) (t : Listing) : Type 0 where
+pub record GotListing (s before after : List ℕ) (base : ℕ) (x : Read UnitListing) (blocks code : ℕ) : Type 0 where
   pub listing : UnitListing
   pub end : ℕ
   pub reads : x ≡ read listing end
-  pub is : t ≡ listingFrom base listing
+  pub block-count : length (starts (listing .blocks)) ≡ blocks
+  pub code-count : length (starts (listing .code)) ≡ code
   pub filled : Filled s base before (inListing listing) end after
 
-module _ (base : ℕ) (x : Read UnitListing) {r : ReadListing} (q : r ≡ listingOf base x) where
+module _ (x : Read UnitListing) {r : ReadListing} (q : r ≡ listingOf x) where
   pub got-listing :
-      (s before after : List ℕ) → FilledBy inListing s base before x after → {t : Listing} → r ≡ ReadListing.Listing t → GotListing s before after base x t
+      {s before after : List ℕ} {base : ℕ} → FilledBy inListing s base before x after → {n m : ℕ} → r ≡ ReadListing.Counts n m →
+      GotListing s before after base x n m
   unfolding listingOf FilledBy
-  got-listing s before after f {t} k = go x q f
+  got-listing {s} {before} {after} {base} f {n} {m} k = go x q f
     where
-      go : (y : Read UnitListing) → r ≡ listingOf base y → FilledBy inListing s base before y after → GotListing s before after base y t
-      go (read l d) q f = record { listing = l; end = d; reads = refl; is = cc; filled = f }
+      go : (y : Read UnitListing) → r ≡ listingOf y → FilledBy inListing s base before y after → GotListing s before after base y n m
+      go (read l d) q f = record { listing = l; end = d; reads = refl; block-count = cc; code-count = cc; filled = f }
       go (stop w p) q f = let z : _≡_ {A = ℕ} 0 1 = cc in absurd (omega arith)
 
   pub refused-listing : {w : StatusCode} {p : ℕ} → r ≡ ReadListing.Refused w p → x ≡ stop w p
   unfolding listingOf
   refused-listing {w} {p} k = go x q
     where
-      go : (y : Read UnitListing) → r ≡ listingOf base y → y ≡ stop w p
+      go : (y : Read UnitListing) → r ≡ listingOf y → y ≡ stop w p
       go (read l d) q = let z : _≡_ {A = ℕ} 0 1 = cc in absurd (omega arith)
       go (stop v o) q = cc
 
@@ -108,7 +113,7 @@ module _ (head : defs.Head) (s : List ℕ) where
   unfolding unitInParts _>>=_ next answerOf Indexed
   under-refused-1 index q = rw (unit-in-parts head s 1, q) (refl, tt)
 
-  module _ {before m1 : List ℕ} {t : Tables} {e1 : ℕ} (g1 : GotTables s before m1 (commandsOf head) t e1) where
+  module _ {before m1 bases : List ℕ} {e1 : ℕ} (g1 : GotTables s before m1 bases (commandsOf head) e1) where
     abbrev signatures : List Signature
     signatures = items (g1 .tables .signatures)
 
@@ -116,11 +121,23 @@ module _ (head : defs.Head) (s : List ℕ) where
     unfolding unitInParts _>>=_ _>>_ next here answerOf Indexed
     under-refused-2 index q = rw (unit-in-parts head s 1, g1 .reads, q) (refl, tt)
 
+    -- there are nine, and they lie within the index
+    nine : length (placesOf (g1 .tables)) ≡ 9
+    unfolding placesOf
+    nine = refl
+
+    pub tables-end : getD bases 9 0 ≡ length (joined (placesOf (g1 .tables)))
+    tables-end = row-end (g1 .rows) nine
+
+    pub tables-ordered : Room s 1 0 before → Ordered bases
+    tables-ordered room = rows-ordered (g1 .rows) nine (omega (arith, g1 .filled .below, g1 .filled .inside, room .small))
+
     -- how many signatures there are
-    pub signature-count : {n : ℕ} → n ≡ t .handles .second .count → length signatures ≡ n
+    pub signature-count : length signatures ≡ getD bases 2 0 - getD bases 1 0
     unfolding placesOf starts items
-    signature-count q =
-        length-map (g1 .tables .signatures) _ ∙ sym (q ∙ ap (λ (t : Tables). t .handles .second .count) (g1 .are) ∙ length-map (g1 .tables .signatures) _)
+    signature-count =
+        let x = ap (λ (t : Table). t .count) (row (g1 .rows) 1 (omega (arith, nine))) in
+        length-map (g1 .tables .signatures) _ ∙ sym (x ∙ length-map (g1 .tables .signatures) _)
 
     module _ {u : Unit {0}} {e2 : ℕ} (d : due (commandsOf head) 0x19 s e1 ≡ read u e2) where
       pub under-refused-3 : {w : StatusCode} {p : ℕ} (index : List ℕ) → functionView signatures s e2 ≡ stop w p → UnitRefused (unitUnder head s 1) index w p
@@ -134,15 +151,14 @@ module _ (head : defs.Head) (s : List ℕ) where
         under-refused-4 index q = rw (unit-in-parts head s 1, g1 .reads, d, f, q) (refl, tt)
 
         -- there is room for the listing
-        pub listing-room : Room s 1 0 before → {b : ℕ} → b ≡ afterTables t → Room s e3 b m1
-        unfolding inTables inFour
-        listing-room room {b} q =
+        pub listing-room : Room s 1 0 before → Room s e3 (getD bases 9 0) m1
+        listing-room room =
             let x = due-got (commandsOf head) 0x19 s e1 d in
             let y = reads-within (functionView-reaches signatures) s e2 (omega arith) f in
-            let z : b ≡ 0 + length (inTables (placesOf (g1 .tables))) = q ∙ ap afterTables (g1 .are) ∙ simp length-append (omega arith) in
-            room-later (room-after (g1 .filled) room (g1 .long) b z) (omega (arith, y .far)) (y .within)
+            let z : getD bases 9 0 ≡ 0 + length (joined (placesOf (g1 .tables))) = tables-end ∙ omega arith in
+            room-later (room-after (g1 .filled) room (g1 .long) (getD bases 9 0) z) (omega (arith, y .far)) (y .within)
 
-        module _ {m2 : List ℕ} {b : ℕ} {tl : Listing} (g3 : GotListing s m1 m2 b (unitListing (commandsOf head) s e3) tl) where
+        module _ {m2 : List ℕ} {n m : ℕ} (g3 : GotListing s m1 m2 (getD bases 9 0) (unitListing (commandsOf head) s e3) n m) where
           abbrev read-there : Decoded
           read-there = decoded head (g1 .tables) e1 view (g3 .listing)
 
@@ -150,28 +166,42 @@ module _ (head : defs.Head) (s : List ℕ) where
           unfolding unitInParts _>>=_ _>>_ next here give
           under-reads = unit-in-parts head s 1 ∙ rw (g1 .reads, d, f, g3 .reads)
 
-          module _ (q : b ≡ afterTables t) where
-            under-filled : take (length (startsOf read-there)) m2 ≡ startsOf read-there
-            unfolding startsOf decoded inTables inFour placesOf
-            under-filled =
-                let z : b ≡ 0 + length (inTables (placesOf (g1 .tables))) = q ∙ ap afterTables (g1 .are) ∙ simp length-append (omega arith) in
-                let ps : List ℕ = inTables (placesOf (g1 .tables)) ++ inListing (g3 .listing) in
-                let k : 0 + length ps ≡ length ps = omega arith in
-                rw k at (filled-then (g1 .filled) z (g3 .filled) .placed)
+          -- the index has room for all
+          pub counts-fit : length s ≤ 32768 → getD bases 9 0 + n + m ≤ 32768
+          unfolding inListing
+          counts-fit small =
+              let a = length-append (starts (g3 .listing .blocks)) (starts (g3 .listing .code)) in
+              omega (arith, g3 .filled .below, g3 .filled .inside, g3 .block-count, g3 .code-count)
 
-            pub under-answers :
-                {v : View} (h : Head) → head ≡ headOf h → v ≡ viewFrom h t e1 tl →
-                (ReadUnit.Unit v ≡ answerOf (unitUnder head s 1)) × Indexed (unitUnder head s 1) m2
-            unfolding answerOf Indexed viewOf decoded placesOf
-            under-answers {v} h r k =
-                let x : headFor head ≡ h = ap headFor r ∙ same-head h in
-                let y = g1 .are in
-                let z : tl ≡ listingFrom (afterTables (tablesFrom (placesOf (g1 .tables)))) (g3 .listing) =
-                g3 .is ∙ ap (λ (n : ℕ). listingFrom n (g3 .listing)) (q ∙ ap afterTables y) in
-                let w : v ≡ viewOf read-there =
-                k ∙ ap (λ (t : Tables). viewFrom h t e1 tl) y ∙ ap (λ (l : Listing). viewFrom h (tablesFrom (placesOf (g1 .tables))) e1 l) z
-                ∙ ap (λ (h : Head). viewFrom h (tablesFrom (placesOf (g1 .tables))) e1 (listingFrom (afterTables (tablesFrom (placesOf (g1 .tables)))) (g3 .listing))) (sym x) in
-                rw under-reads (ap ReadUnit.Unit w, under-filled)
+          under-filled : take (length (joined (segments read-there))) m2 ≡ joined (segments read-there)
+          unfolding joined decoded placesOf inListing
+          under-filled =
+              let z : getD bases 9 0 ≡ 0 + length (joined (placesOf (g1 .tables))) = tables-end ∙ omega arith in
+              let x : joined (placesOf (g1 .tables)) ++ inListing (g3 .listing) ≡ joined (segments read-there) = simp (append-assoc, append-nil) in
+              let k : 0 + length (joined (segments read-there)) ≡ length (joined (segments read-there)) = omega arith in
+              rw k at (rw x at (filled-then (g1 .filled) z (g3 .filled)) .placed)
+
+          pub under-answers :
+              {v : View} (h : Head) → head ≡ headOf h → v ≡ viewFrom h bases e1 n m →
+              (ReadUnit.Unit v ≡ answerOf (unitUnder head s 1)) × Indexed (unitUnder head s 1) m2
+          unfolding answerOf Indexed viewOf decoded placesOf baseFrom
+          under-answers {v} h r k =
+              let x : headFor head ≡ h = ap headFor r ∙ same-head h in
+              let at : (i : ℕ) → i < 9 → tableAt bases i ≡ tableIn i (placesOf (g1 .tables)) = λ i l. row (g1 .rows) i (omega (arith, nine)) in
+              let a = at 0 (omega arith) in
+              let b = at 1 (omega arith) in
+              let c = at 2 (omega arith) in
+              let d = at 3 (omega arith) in
+              let e = at 4 (omega arith) in
+              let f = at 5 (omega arith) in
+              let g = at 6 (omega arith) in
+              let i = at 7 (omega arith) in
+              let j = at 8 (omega arith) in
+              let last = g1 .rows .begin 9 (omega (arith, nine)) in
+              let bs = g3 .block-count in
+              let cs = g3 .code-count in
+              let w : v ≡ viewOf read-there = k ∙ cc in
+              rw under-reads (ap ReadUnit.Unit w, under-filled)
 
 -- ── a whole unit ──
 

@@ -1,27 +1,16 @@
 -- The entries of each table in the index of a unit that was read: at entry i of a table is the place of its record i.
 use mathlib.Core.Path.{_≡_, refl, sym, ap, _∙_}
-use mathlib.Core.List.{List, [], _∷_, _++_, append-assoc, append-nil}
+use mathlib.Core.List.{List, [], _∷_, _++_, append-assoc}
 use Prim.Native.Nat.{ℕ, zero, suc, _+_, _<_}
 use native.Mathlib.Nat.{not-suc-le-zero}
 use native.Mathlib.Omega.{arith}
 use lib.ListN.{length, take, getD, length-append, length-take, List·getD-append}
 use lib.Seq.{getD-take, getD-append-add}
-use Rattle.definitions.specs.Reader.{Decoded}
 use Rattle.unit.specs.declared.View.{View}
-use Rattle.unit.specs.Outline.{starts, inFour, inTables, inListing, placesOf}
-use Rattle.unit.specs.Views.{startsOf, UnitRead}
+use Rattle.unit.specs.Outline.{joined, baseFrom}
+use Rattle.unit.specs.Views.{segments, UnitRead}
 
 -- ── one list after another ──
-
-unfoldable pub joined : List (List ℕ) → List ℕ
-joined [] = []
-joined (l ∷ ls) = l ++ joined ls
-
--- where list k begins, if the first begins at base
-unfoldable pub baseFrom : ℕ → ℕ → List (List ℕ) → ℕ
-baseFrom base zero ls = base
-baseFrom base (suc k) [] = base
-baseFrom base (suc k) (l ∷ ls) = baseFrom (base + length l) k ls
 
 -- xs has x at i
 pub record Has (xs : List ℕ) (i x : ℕ) : Type 0 where
@@ -54,22 +43,9 @@ module _ (xs : List ℕ) where
 
 -- ── the tables of a unit ──
 
--- the places of each table, of the blocks and of the code
-abbrev pub segments : Decoded → List (List ℕ)
-segments d =
-    starts (d .structHandles) ∷ starts (d .signatures) ∷ starts (d .functionHandles) ∷ starts (d .functionInstantiations) ∷ starts (d .structDefs)
-    ∷ starts (d .structInstantiations) ∷ starts (d .fieldHandles) ∷ starts (d .fieldInstantiations) ∷ starts (d .constants) ∷ starts (d .blocks)
-    ∷ starts (d .code) ∷ []
-
-pub starts-joined : (d : Decoded) → startsOf d ≡ joined (segments d)
-unfolding startsOf inTables inFour placesOf inListing joined
-starts-joined d = simp (append-assoc, append-nil)
-
 pub segment-at :
     {s index : List ℕ} {view : View} (u : UnitRead s index view) (k i : ℕ) → i < length (getD (segments (u .decoded)) k []) →
     Has index (baseFrom 0 k (segments (u .decoded)) + i) (getD (getD (segments (u .decoded)) k []) i 0)
 segment-at {s} {index} u k i h =
-    let q = u .indexed in
-    let z = starts-joined (u .decoded) in
     let n : 0 + length (joined (segments (u .decoded))) ≡ length (joined (segments (u .decoded))) = omega arith in
-    at-list index k 0 (segments (u .decoded)) [] refl (rw n (rw z at q)) i h
+    at-list index k 0 (segments (u .decoded)) [] refl (rw n (u .indexed)) i h

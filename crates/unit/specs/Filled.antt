@@ -9,15 +9,9 @@ use Rattle.definitions.specs.Commands.{commandsOf}
 use Rattle.definitions.specs.Reader.{code, block, items}
 use Rattle.definitions.specs.CompiledUnit as defs
 use Rattle.unit.specs.declared.Head.{Head}
-use Rattle.unit.specs.declared.Table.{Table}
 use Rattle.unit.specs.declared.ReadTable.{ReadTable}
-use Rattle.unit.specs.declared.Four.{Four}
-use Rattle.unit.specs.declared.ReadFour.{ReadFour}
-use Rattle.unit.specs.declared.Tables.{Tables}
-use Rattle.unit.specs.declared.ReadTables.{ReadTables}
-use Rattle.unit.specs.declared.Listing.{Listing}
 use Rattle.unit.specs.declared.ReadListing.{ReadListing}
-use Rattle.unit.specs.Outline.{starts, places, FourPlaces, TablePlaces, UnitListing}
+use Rattle.unit.specs.Outline.{starts, places, baseFrom, UnitListing}
 
 -- the definition's head for the code's
 abbrev pub headOf : Head → defs.Head
@@ -44,56 +38,27 @@ FilledBy places s base before (stop status p) after = Unit {0}
 
 -- ── answers ──
 
--- the entries of the places ps, from base on
-abbrev pub entries : ℕ → List ℕ → Table
-entries base ps = record { base = base; count = length ps }
+unfoldable pub tableOf : Read (List ℕ) → ReadTable
+tableOf (read ps e) = ReadTable.Records (length ps) e
+tableOf (stop status p) = ReadTable.Refused status p
 
-unfoldable pub tableOf : ℕ → Read (List ℕ) → ReadTable
-tableOf base (read ps e) = ReadTable.Records (entries base ps) e
-tableOf base (stop status p) = ReadTable.Refused status p
+unfoldable pub listingOf : Read UnitListing → ReadListing
+listingOf (read l e) = ReadListing.Counts (length (starts (l .blocks))) (length (starts (l .code)))
+listingOf (stop status p) = ReadListing.Refused status p
 
--- where the entries after those of four tables begin
-abbrev pub afterFour : ℕ → FourPlaces → ℕ
-afterFour base f = base + length (f .first) + length (f .second) + length (f .third) + length (f .fourth)
+-- the entries of each of the tables ls begin where bases says, and so does what is behind the last
+pub record Rows (bases : List ℕ) (ls : List (List ℕ)) : Type 0 where
+  pub size : length bases ≡ 10
+  pub begin : (i : ℕ) → i ≤ length ls → getD bases i 0 ≡ baseFrom 0 i ls
 
-abbrev pub fourFrom : ℕ → FourPlaces → Four
-fourFrom base f = record {
-  first = entries base (f .first);
-  second = entries (base + length (f .first)) (f .second);
-  third = entries (base + length (f .first) + length (f .second)) (f .third);
-  fourth = entries (base + length (f .first) + length (f .second) + length (f .third)) (f .fourth);
-}
-
-unfoldable pub fourOf : ℕ → Read FourPlaces → ReadFour
-fourOf base (read f e) = ReadFour.Tables (fourFrom base f) e
-fourOf base (stop status p) = ReadFour.Refused status p
-
--- the entries of the tables, from the index's start on
-abbrev pub tablesFrom : TablePlaces → Tables
-tablesFrom t = record {
-  handles = fourFrom 0 (t .handles);
-  definitions = fourFrom (afterFour 0 (t .handles)) (t .definitions);
-  constants = entries (afterFour (afterFour 0 (t .handles)) (t .definitions)) (t .constants);
-}
-
-unfoldable pub tablesOf : Read TablePlaces → ReadTables
-tablesOf (read t e) = ReadTables.Tables (tablesFrom t) e
-tablesOf (stop status p) = ReadTables.Refused status p
-
--- the entries of the blocks and of the code, from base on
-abbrev pub listingFrom : ℕ → UnitListing → Listing
-listingFrom base l = record {
-  blocks = entries base (starts (l .blocks));
-  code = entries (base + length (starts (l .blocks))) (starts (l .code));
-}
-
-unfoldable pub listingOf : ℕ → Read UnitListing → ReadListing
-listingOf base (read l e) = ReadListing.Listing (listingFrom base l)
-listingOf base (stop status p) = ReadListing.Refused status p
+-- the same of tables that were read; a refusal says nothing
+unfoldable pub RowsBy : Read (List (List ℕ)) → List ℕ → Type 0
+RowsBy (read ls e) bases = Rows bases ls
+RowsBy (stop status p) bases = Unit {0}
 
 -- the answer for the code, and the index afterwards, whatever the head is
 pub record CodeAnswered (s : List ℕ) (from base : ℕ) (before after : List ℕ) (r : ReadTable) : Type 0 where
-  pub answers : (head : defs.Head) → r ≡ tableOf base (places (code (commandsOf head)) s from)
+  pub answers : (head : defs.Head) → r ≡ tableOf (places (code (commandsOf head)) s from)
   pub fills : (head : defs.Head) → FilledBy (λ ps. ps) s base before (places (code (commandsOf head)) s from) after
 
 -- ── blocks ──

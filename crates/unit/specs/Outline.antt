@@ -1,7 +1,7 @@
 -- The reader of a unit in three parts, as the functions read it: the tables, the function, and the listing of blocks and code; and the
 -- places alone of what is read, which is what the functions keep.
-use mathlib.Core.List.{List, _++_, map}
-use Prim.Native.Nat.{ℕ, _+_}
+use mathlib.Core.List.{List, [], _∷_, _++_, map}
+use Prim.Native.Nat.{ℕ, zero, suc, _+_}
 use lib.ListN.{length}
 use Rattle.definitions.specs.SignatureToken.{SignatureToken, Signature}
 use Rattle.definitions.specs.Bytecode.{Bytecode}
@@ -23,16 +23,6 @@ places m = do
 
 -- ── tables ──
 
--- four tables in a row: 10 to 13, or 14 to 17
-pub record FourPlaces : Type 0 where
-  pub first : List ℕ
-  pub second : List ℕ
-  pub third : List ℕ
-  pub fourth : List ℕ
-
-unfoldable pub inFour : FourPlaces → List ℕ
-inFour f = f .first ++ (f .second ++ (f .third ++ f .fourth))
-
 -- the tables before the function
 pub record UnitTables : Type 0 where
   pub structHandles : List (Placed StructHandle)
@@ -45,42 +35,39 @@ pub record UnitTables : Type 0 where
   pub fieldInstantiations : List (Placed FieldInstantiation)
   pub constants : List (Placed SignatureToken)
 
--- 10 to 13, 14 to 17, and 18
-pub record TablePlaces : Type 0 where
-  pub handles : FourPlaces
-  pub definitions : FourPlaces
-  pub constants : List ℕ
+-- the places of each table
+unfoldable pub placesOf : UnitTables → List (List ℕ)
+placesOf t =
+    starts (t .structHandles) ∷ starts (t .signatures) ∷ starts (t .functionHandles) ∷ starts (t .functionInstantiations) ∷ starts (t .structDefs)
+    ∷ starts (t .structInstantiations) ∷ starts (t .fieldHandles) ∷ starts (t .fieldInstantiations) ∷ starts (t .constants) ∷ []
 
-unfoldable pub placesOf : UnitTables → TablePlaces
-placesOf t = record {
-  handles = record { first = starts (t .structHandles); second = starts (t .signatures); third = starts (t .functionHandles); fourth = starts (t .functionInstantiations) };
-  definitions = record { first = starts (t .structDefs); second = starts (t .structInstantiations); third = starts (t .fieldHandles); fourth = starts (t .fieldInstantiations) };
-  constants = starts (t .constants);
-}
+-- one list after another
+unfoldable pub joined : List (List ℕ) → List ℕ
+joined [] = []
+joined (l ∷ ls) = l ++ joined ls
 
-unfoldable pub inTables : TablePlaces → List ℕ
-inTables t = inFour (t .handles) ++ (inFour (t .definitions) ++ t .constants)
+-- where list k begins, if the first begins at base
+unfoldable pub baseFrom : ℕ → ℕ → List (List ℕ) → ℕ
+baseFrom base zero ls = base
+baseFrom base (suc k) [] = base
+baseFrom base (suc k) (l ∷ ls) = baseFrom (base + length l) k ls
 
 module _ (commands : Commands) where
   -- the places of the records of a command
   unfoldable pub recordPlaces : ℕ → Reader (List ℕ)
   recordPlaces c = places (table commands c (bodyOf commands c))
 
-  -- the places of the records of four commands, the first of which is c
-  unfoldable pub fourPlaces : ℕ → Reader FourPlaces
-  fourPlaces c = do
-    p ← recordPlaces c
-    q ← recordPlaces (c + 1)
-    r ← recordPlaces (c + 2)
-    t ← recordPlaces (c + 3)
-    give (record { first = p; second = q; third = r; fourth = t })
+  -- the places of the records of n commands in a row, the first of which is c
+  unfoldable pub tablesWithin : ℕ → ℕ → Reader (List (List ℕ))
+  tablesWithin zero c = give []
+  tablesWithin (suc n) c = do
+    ps ← recordPlaces c
+    rest ← tablesWithin n (c + 1)
+    give (ps ∷ rest)
 
-  unfoldable pub tablePlaces : Reader TablePlaces
-  tablePlaces = do
-    h ← fourPlaces 0x10
-    d ← fourPlaces 0x14
-    c ← recordPlaces 0x18
-    give (record { handles = h; definitions = d; constants = c })
+  -- and of the commands before the function's, 10 to 18
+  unfoldable pub tablePlaces : Reader (List (List ℕ))
+  tablePlaces = tablesWithin 9 0x10
 
   unfoldable pub unitTables : Reader UnitTables
   unitTables = do

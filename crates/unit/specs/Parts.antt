@@ -15,7 +15,7 @@ use Rattle.record_reader.specs.ReadTo.{readTo}
 use Rattle.record_reader.specs.Alike.{Alike}
 use Rattle.record_reader.specs.Bodies.{bodyOf}
 use Rattle.record_reader.specs.BodyLaws.{body-structHandle, body-signature, body-functionHandle, body-functionInstantiation, body-structDefinition, body-structDefInstantiation, body-fieldHandle, body-fieldInstantiation, body-constant}
-use Rattle.unit.specs.Outline.{starts, places, recordPlaces, fourPlaces, tablePlaces, UnitTables, unitTables, placesOf, UnitListing, unitListing}
+use Rattle.unit.specs.Outline.{starts, places, recordPlaces, tablesWithin, tablePlaces, UnitTables, unitTables, placesOf, UnitListing, unitListing}
 
 pub next-assoc :
     {A B C : Type 0} (x : Read A) (f : A → ℕ → Read B) (g : B → ℕ → Read C) → next (next x f) g ≡ next x (λ a e. next (f a e) g)
@@ -125,7 +125,7 @@ module _ (commands : Commands) (s : List ℕ) where
   named c h at = table-alike h c s commands at
 
   pub tables-forgotten : (at : ℕ) → next (unitTables commands s at) (λ t e. read (placesOf t) e) ≡ tablePlaces commands s at
-  unfolding unitTables tablePlaces fourPlaces _>>=_ give placesOf
+  unfolding unitTables tablePlaces tablesWithin _>>=_ give placesOf
   tables-forgotten at =
       simp (
         next-assoc,

@@ -3,13 +3,13 @@ use record_reader::ReadTo;
 use status::StatusCode;
 ghost use mathlib.Core.Path.{_≡_};
 ghost use Prim.Native.Nat.{_+_, _≤_, _<_};
-ghost use lib.ListN.{length, getD};
+ghost use lib.ListN.{length, getD, replicate};
 ghost use Rattle.definitions.specs.Commands.{commandsOf, known};
 ghost use Rattle.definitions.specs.Reader.{due, blocksWithin, unitUnder, readUnit};
-ghost use Rattle.unit.specs.Views.{viewFrom, answerOf, Indexed};
 ghost use Rattle.record_reader.specs.ReadTo.{readTo};
-ghost use Rattle.unit.specs.Outline.{recordPlaces, inFour, fourPlaces, inTables, tablePlaces, inListing, unitListing};
-ghost use Rattle.unit.specs.Filled.{headOf, Room, FilledBy, tableOf, fourOf, tablesOf, listingOf, CodeAnswered, BlocksAt};
+ghost use Rattle.unit.specs.Outline.{joined, recordPlaces, tablePlaces, inListing, unitListing};
+ghost use Rattle.unit.specs.Filled.{headOf, Room, FilledBy, tableOf, RowsBy, listingOf, CodeAnswered, BlocksAt};
+ghost use Rattle.unit.specs.Views.{Ordered, tableAt, viewFrom, answerOf, Indexed};
 
 pub enum Head {
     Module,
@@ -22,41 +22,16 @@ pub struct Table {
     pub count: u16,
 }
 
-// Four tables of commands in a row.
-pub struct Four {
-    pub first: Table,
-    pub second: Table,
-    pub third: Table,
-    pub fourth: Table,
-}
-
-// The tables before the function: 10 to 13, 14 to 17, and 18.
-pub struct Tables {
-    pub handles: Four,
-    pub definitions: Four,
-    pub constants: Table,
-}
-
-// A table that was read, and the next byte; or a refusal, and the byte that it is about.
-pub enum ReadTable {
-    Records(Table, usize),
+// How many records there are, and the next byte; or a refusal, and the byte that it is about.
+enum ReadTable {
+    Records(usize, usize),
     Refused(StatusCode, usize),
 }
 
-pub enum ReadFour {
-    Tables(Four, usize),
+// How many blocks there are, and how many instructions; or a refusal, and the byte that it is about.
+enum ReadListing {
+    Counts(usize, usize),
     Refused(StatusCode, usize),
-}
-
-pub enum ReadTables {
-    Tables(Tables, usize),
-    Refused(StatusCode, usize),
-}
-
-// The entries of the blocks and of the code.
-pub struct Listing {
-    pub blocks: Table,
-    pub code: Table,
 }
 
 // What is known of a unit that was read: for each table, for the blocks and for the code the entries in the index, and the place of the
@@ -82,26 +57,6 @@ pub enum ReadUnit {
     Refused(StatusCode, usize),
 }
 
-pub enum ReadListing {
-    Listing(Listing),
-    Refused(StatusCode, usize),
-}
-
-impl Table {
-    // Where the entries of the next table begin.
-    fn end(self) -> usize
-        ensures { λ r. ⌜ r ≡ self .base + self .count ⌝ }
-    {
-        self.base as usize + self.count as usize
-    }
-
-    fn size(self) -> usize
-        ensures { λ r. ⌜ r ≡ self .count ⌝ }
-    {
-        self.count as usize
-    }
-}
-
 // Whether a command opens a record under this head.
 fn is_known(head: Head, command: u8) -> bool
     ensures { λ r. ⌜ r ≡ known (commandsOf (headOf head)) command ⌝ }
@@ -117,20 +72,6 @@ fn is_known(head: Head, command: u8) -> bool
     }
 }
 
-// So many entries from base on.
-fn records(base: usize, count: usize, next: usize) -> ReadTable
-    requires { ⌜ base + count ≤ 32768 ⌝ }
-    ensures { λ r. ⌜ r ≡ ReadTable.Records (record { base = base; count = count }) next ⌝ }
-{
-    ReadTable::Records(
-        Table {
-            base: base as u16,
-            count: count as u16,
-        },
-        next,
-    )
-}
-
 // The records of one command. The place of each goes into the index, from base on.
 fn read_table(
     s: &[u8],
@@ -141,17 +82,17 @@ fn read_table(
     base: usize,
 ) -> ReadTable
     requires { ⌜ Room (now s) from base (now index) ⌝ }
-    ensures { λ r. ⌜ r ≡ tableOf base (recordPlaces (commandsOf (headOf head)) command (now (s .entry)) from) ⌝ }
+    ensures { λ r. ⌜ r ≡ tableOf (recordPlaces (commandsOf (headOf head)) command (now (s .entry)) from) ⌝ }
     ensures { λ r. ⌜ FilledBy (λ ps. ps) (now (s .entry)) base (now (index .entry)) (recordPlaces (commandsOf (headOf head)) command (now (s .entry)) from) (now (index .exit)) ⌝ }
 {
     if !is_known(head, command) {
-        return records(base, 0, from);
+        return ReadTable::Records(0, from);
     }
     let mut at = from;
     let mut n = 0usize;
     while at < s.len() {
         if s[at] != command {
-            return records(base, n, at);
+            return ReadTable::Records(n, at);
         }
         match record_reader::read_body(s, at + 1, command) {
             ReadTo::Refused(status, p) => {
@@ -164,81 +105,35 @@ fn read_table(
             }
         }
     }
-    records(base, n, at)
+    ReadTable::Records(n, at)
 }
 
-// The tables of four commands in a row, the first of which is `command`.
-fn read_four(
-    s: &[u8],
-    from: usize,
-    head: Head,
-    command: u8,
-    index: &mut [u16],
-    base: usize,
-) -> ReadFour
-    requires { ⌜ Room (now s) from base (now index) ⌝ }
-    requires { ⌜ command < 253 ⌝ }
-    ensures { λ r. ⌜ r ≡ fourOf base (fourPlaces (commandsOf (headOf head)) command (now (s .entry)) from) ⌝ }
-    ensures { λ r. ⌜ FilledBy inFour (now (s .entry)) base (now (index .entry)) (fourPlaces (commandsOf (headOf head)) command (now (s .entry)) from) (now (index .exit)) ⌝ }
-{
-    match read_table(s, from, head, command, index, base) {
-        ReadTable::Refused(status, p) => ReadFour::Refused(status, p),
-        ReadTable::Records(first, at2) => {
-            match read_table(s, at2, head, command + 1, index, first.end()) {
-                ReadTable::Refused(status, p) => ReadFour::Refused(status, p),
-                ReadTable::Records(second, at3) => {
-                    match read_table(s, at3, head, command + 2, index, second.end()) {
-                        ReadTable::Refused(status, p) => ReadFour::Refused(status, p),
-                        ReadTable::Records(third, at4) => {
-                            match read_table(s, at4, head, command + 3, index, third.end()) {
-                                ReadTable::Refused(status, p) => ReadFour::Refused(status, p),
-                                ReadTable::Records(fourth, next) => ReadFour::Tables(
-                                    Four {
-                                        first: first,
-                                        second: second,
-                                        third: third,
-                                        fourth: fourth,
-                                    },
-                                    next,
-                                ),
-                            }
-                        }
-                    }
-                }
-            }
-        }
-    }
-}
-
-// The tables before the function, from the byte after the head on.
-fn read_tables(s: &[u8], head: Head, index: &mut [u16]) -> ReadTables
+// The tables before the function, of the commands 10 to 18, from the byte after the head on. Where the entries of each begin goes to
+// `bases`, and behind the last where they end.
+fn read_tables(s: &[u8], head: Head, index: &mut [u16], bases: &mut [usize]) -> ReadTo
     requires { ⌜ Room (now s) 1 0 (now index) ⌝ }
-    ensures { λ r. ⌜ r ≡ tablesOf (tablePlaces (commandsOf (headOf head)) (now (s .entry)) 1) ⌝ }
-    ensures { λ r. ⌜ FilledBy inTables (now (s .entry)) 0 (now (index .entry)) (tablePlaces (commandsOf (headOf head)) (now (s .entry)) 1) (now (index .exit)) ⌝ }
+    requires { ⌜ now bases ≡ replicate 10 0 ⌝ }
+    ensures { λ r. ⌜ r ≡ readTo (tablePlaces (commandsOf (headOf head)) (now (s .entry)) 1) ⌝ }
+    ensures { λ r. ⌜ FilledBy joined (now (s .entry)) 0 (now (index .entry)) (tablePlaces (commandsOf (headOf head)) (now (s .entry)) 1) (now (index .exit)) ⌝ }
+    ensures { λ r. ⌜ RowsBy (tablePlaces (commandsOf (headOf head)) (now (s .entry)) 1) (now (bases .exit)) ⌝ }
 {
-    match read_four(s, 1, head, 0x10, index, 0) {
-        ReadFour::Refused(status, p) => ReadTables::Refused(status, p),
-        ReadFour::Tables(handles, at) => {
-            let last = handles.fourth;
-            match read_four(s, at, head, 0x14, index, last.end()) {
-                ReadFour::Refused(status, p) => ReadTables::Refused(status, p),
-                ReadFour::Tables(definitions, at_constants) => {
-                    let before = definitions.fourth;
-                    match read_table(s, at_constants, head, 0x18, index, before.end()) {
-                        ReadTable::Refused(status, p) => ReadTables::Refused(status, p),
-                        ReadTable::Records(constants, next) => ReadTables::Tables(
-                            Tables {
-                                handles: handles,
-                                definitions: definitions,
-                                constants: constants,
-                            },
-                            next,
-                        ),
-                    }
-                }
+    let mut at = 1usize;
+    let mut base = 0usize;
+    let mut i = 0u8;
+    while i < 9 {
+        match read_table(s, at, head, 0x10 + i, index, base) {
+            ReadTable::Refused(status, p) => {
+                return ReadTo::Refused(status, p);
+            }
+            ReadTable::Records(count, next) => {
+                base += count;
+                bases[i as usize + 1] = base;
+                at = next;
+                i += 1;
             }
         }
     }
+    ReadTo::Next(at)
 }
 
 // The command that is due.
@@ -284,7 +179,7 @@ fn read_code(s: &[u8], from: usize, index: &mut [u16], base: usize) -> ReadTable
             }
         }
     }
-    records(base, n, at)
+    ReadTable::Records(n, at)
 }
 
 fn place_at(index: &[u16], i: usize) -> usize
@@ -325,25 +220,22 @@ fn check_blocks(
 // What stands after the function: blocks and code, up to the unit's end.
 fn read_listing(s: &[u8], from: usize, head: Head, index: &mut [u16], base: usize) -> ReadListing
     requires { ⌜ Room (now s) from base (now index) ⌝ }
-    ensures { λ r. ⌜ r ≡ listingOf base (unitListing (commandsOf (headOf head)) (now (s .entry)) from) ⌝ }
+    ensures { λ r. ⌜ r ≡ listingOf (unitListing (commandsOf (headOf head)) (now (s .entry)) from) ⌝ }
     ensures { λ r. ⌜ FilledBy inListing (now (s .entry)) base (now (index .entry)) (unitListing (commandsOf (headOf head)) (now (s .entry)) from) (now (index .exit)) ⌝ }
 {
     match read_table(s, from, head, 0x1A, index, base) {
         ReadTable::Refused(status, p) => ReadListing::Refused(status, p),
         ReadTable::Records(blocks, at) => match read_due(s, at, head, 0x1B) {
             ReadTo::Refused(status, p) => ReadListing::Refused(status, p),
-            ReadTo::Next(at_code) => match read_code(s, at_code, index, blocks.end()) {
+            ReadTo::Next(at_code) => match read_code(s, at_code, index, base + blocks) {
                 ReadTable::Refused(status, p) => ReadListing::Refused(status, p),
                 ReadTable::Records(code, end) => {
                     if end != s.len() {
                         return ReadListing::Refused(StatusCode::TRAILING, end);
                     }
-                    match check_blocks(s, end, index, base, blocks.size(), code.size()) {
+                    match check_blocks(s, end, index, base, blocks, code) {
                         ReadTo::Refused(status, p) => ReadListing::Refused(status, p),
-                        ReadTo::Next(next) => ReadListing::Listing(Listing {
-                            blocks: blocks,
-                            code: code,
-                        }),
+                        ReadTo::Next(next) => ReadListing::Counts(blocks, code),
                     }
                 }
             },
@@ -351,22 +243,44 @@ fn read_listing(s: &[u8], from: usize, head: Head, index: &mut [u16], base: usiz
     }
 }
 
-fn view_of(head: Head, tables: Tables, function: usize, listing: Listing) -> View
-    ensures { λ r. ⌜ r ≡ viewFrom head tables function listing ⌝ }
+// So many entries from base on.
+fn entries(base: usize, count: usize) -> Table
+    requires { ⌜ base + count ≤ 32768 ⌝ }
+    ensures { λ r. ⌜ r ≡ record { base = base; count = count } ⌝ }
 {
-    let handles = tables.handles;
-    let struct_handles = handles.first;
-    let signatures = handles.second;
-    let function_handles = handles.third;
-    let function_instantiations = handles.fourth;
-    let definitions = tables.definitions;
-    let struct_defs = definitions.first;
-    let struct_instantiations = definitions.second;
-    let field_handles = definitions.third;
-    let field_instantiations = definitions.fourth;
-    let constants = tables.constants;
-    let blocks = listing.blocks;
-    let code = listing.code;
+    Table {
+        base: base as u16,
+        count: count as u16,
+    }
+}
+
+// The entries of table i: up to where those of the next begin.
+fn table_at(bases: &[usize], i: usize) -> Table
+    requires { ⌜ Ordered (now bases) ⌝ }
+    requires { ⌜ i < 9 ⌝ }
+    ensures { λ r. ⌜ r ≡ tableAt (now (bases .entry)) i ⌝ }
+{
+    let base = bases[i];
+    entries(base, bases[i + 1] - base)
+}
+
+fn view_of(head: Head, bases: &[usize], function: usize, blocks: usize, code: usize) -> View
+    requires { ⌜ Ordered (now bases) ⌝ }
+    requires { ⌜ getD (now bases) 9 0 + blocks + code ≤ 32768 ⌝ }
+    ensures { λ r. ⌜ r ≡ viewFrom head (now (bases .entry)) function blocks code ⌝ }
+{
+    let struct_handles = table_at(bases, 0);
+    let signatures = table_at(bases, 1);
+    let function_handles = table_at(bases, 2);
+    let function_instantiations = table_at(bases, 3);
+    let struct_defs = table_at(bases, 4);
+    let struct_instantiations = table_at(bases, 5);
+    let field_handles = table_at(bases, 6);
+    let field_instantiations = table_at(bases, 7);
+    let constants = table_at(bases, 8);
+    let last = bases[9];
+    let block_entries = entries(last, blocks);
+    let code_entries = entries(last + blocks, code);
     View {
         head: head,
         struct_handles: struct_handles,
@@ -379,8 +293,8 @@ fn view_of(head: Head, tables: Tables, function: usize, listing: Listing) -> Vie
         field_instantiations: field_instantiations,
         constants: constants,
         function: function,
-        blocks: blocks,
-        code: code,
+        blocks: block_entries,
+        code: code_entries,
     }
 }
 
@@ -390,24 +304,20 @@ fn read_under(s: &[u8], head: Head, index: &mut [u16]) -> ReadUnit
     ensures { λ r. ⌜ r ≡ answerOf (unitUnder (headOf head) (now (s .entry)) 1) ⌝ }
     ensures { λ r. ⌜ Indexed (unitUnder (headOf head) (now (s .entry)) 1) (now (index .exit)) ⌝ }
 {
-    match read_tables(s, head, index) {
-        ReadTables::Refused(status, p) => ReadUnit::Refused(status, p),
-        ReadTables::Tables(tables, at) => match read_due(s, at, head, 0x19) {
+    let mut bases = [0usize; 10];
+    match read_tables(s, head, index, &mut bases) {
+        ReadTo::Refused(status, p) => ReadUnit::Refused(status, p),
+        ReadTo::Next(at) => match read_due(s, at, head, 0x19) {
             ReadTo::Refused(status, p) => ReadUnit::Refused(status, p),
             ReadTo::Next(body) => {
-                let handles = tables.handles;
-                let signatures = handles.second;
-                match record_reader::read_function(s, body, signatures.size()) {
+                match record_reader::read_function(s, body, bases[2] - bases[1]) {
                     ReadTo::Refused(status, p) => ReadUnit::Refused(status, p),
-                    ReadTo::Next(next) => {
-                        let last = tables.constants;
-                        match read_listing(s, next, head, index, last.end()) {
-                            ReadListing::Refused(status, p) => ReadUnit::Refused(status, p),
-                            ReadListing::Listing(listing) => {
-                                ReadUnit::Unit(view_of(head, tables, at, listing))
-                            }
+                    ReadTo::Next(next) => match read_listing(s, next, head, index, bases[9]) {
+                        ReadListing::Refused(status, p) => ReadUnit::Refused(status, p),
+                        ReadListing::Counts(blocks, code) => {
+                            ReadUnit::Unit(view_of(head, &bases, at, blocks, code))
                         }
-                    }
+                    },
                 }
             }
         },

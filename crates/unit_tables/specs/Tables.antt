@@ -15,9 +15,8 @@ use Rattle.definitions.specs.Places.{RecordAt, TableAt, more}
 use Rattle.definitions.specs.Places.TableAt.{none as none′}
 use Rattle.unit.specs.declared.View.{View}
 use Rattle.unit.specs.declared.Table.{Table}
-use Rattle.unit.specs.Outline.{placesOf}
-use Rattle.unit.specs.Views.{UnitRead, viewOf, headFor}
-use Rattle.unit.specs.Entries.{Has, segments, baseFrom, segment-at}
+use Rattle.unit.specs.Views.{UnitRead, segments, tableIn, viewOf, headFor}
+use Rattle.unit.specs.Entries.{Has, segment-at}
 use Rattle.unit.specs.Standing.{UnitStands, unit-stands}
 use Rattle.definitions.specs.CompiledUnit as defs
 use Rattle.unit.specs.declared.Head.{Head}
@@ -48,54 +47,55 @@ module _ {s index : List ℕ} {view : View} (u : UnitRead s index view) where
 
   -- table k of the index
   nth-table :
-      {A : Type 0} {body : Reader A} {l : List A} (k : ℕ) (t : Table) → TableAt body s (getD (segments (u .decoded)) k []) l →
-      t .base ≡ baseFrom 0 k (segments (u .decoded)) → t .count ≡ length (getD (segments (u .decoded)) k []) → TableIn body s index t l
-  nth-table k t h b c = record {
-    places = getD (segments (u .decoded)) k [];
-    stands = h;
-    counted = c;
-    entries = λ i m. rw b (segment-at u k i m);
-  }
+      {A : Type 0} {body : Reader A} {l : List A} (k : ℕ) {t : Table} → t ≡ tableIn k (segments (u .decoded)) →
+      TableAt body s (getD (segments (u .decoded)) k []) l → TableIn body s index t l
+  nth-table k q h =
+      record {
+        places = getD (segments (u .decoded)) k [];
+        stands = h;
+        counted = ap (λ (t : Table). t .count) q;
+        entries = λ i m. rw (ap (λ (t : Table). t .base) q) (segment-at u k i m);
+      }
 
   pub structHandles-in : TableIn structHandle s index (view .«struct_handles») (compiledUnit (u .decoded) .structHandles)
-  unfolding viewOf baseFrom placesOf compiledUnit
-  structHandles-in = nth-table 0 (view .«struct_handles») (stand .structHandles) (rw (u .viewed) (omega arith)) (rw (u .viewed) refl)
+  unfolding viewOf compiledUnit
+  structHandles-in = nth-table 0 (rw (u .viewed) refl) (stand .structHandles)
 
   pub signatures-in : TableIn (types (commandsOf (u .decoded .head))) s index (view .signatures) (compiledUnit (u .decoded) .signatures)
-  unfolding viewOf baseFrom placesOf compiledUnit
-  signatures-in = nth-table 1 (view .signatures) (stand .signatures) (rw (u .viewed) (omega arith)) (rw (u .viewed) refl)
+  unfolding viewOf compiledUnit
+  signatures-in = nth-table 1 (rw (u .viewed) refl) (stand .signatures)
 
   pub functionHandles-in : TableIn functionHandle s index (view .«function_handles») (compiledUnit (u .decoded) .functionHandles)
-  unfolding viewOf baseFrom placesOf compiledUnit
-  functionHandles-in = nth-table 2 (view .«function_handles») (stand .functionHandles) (rw (u .viewed) (omega arith)) (rw (u .viewed) refl)
+  unfolding viewOf compiledUnit
+  functionHandles-in = nth-table 2 (rw (u .viewed) refl) (stand .functionHandles)
 
   pub functionInstantiations-in : TableIn functionInstantiation s index (view .«function_instantiations») (compiledUnit (u .decoded) .functionInstantiations)
-  unfolding viewOf baseFrom placesOf compiledUnit
-  functionInstantiations-in = nth-table 3 (view .«function_instantiations») (stand .functionInstantiations) (rw (u .viewed) (omega arith)) (rw (u .viewed) refl)
+  unfolding viewOf compiledUnit
+  functionInstantiations-in = nth-table 3 (rw (u .viewed) refl) (stand .functionInstantiations)
 
   pub structDefs-in : TableIn (structDefinition (commandsOf (u .decoded .head))) s index (view .«struct_defs») (compiledUnit (u .decoded) .structDefs)
-  unfolding viewOf baseFrom placesOf compiledUnit
-  structDefs-in = nth-table 4 (view .«struct_defs») (stand .structDefs) (rw (u .viewed) (omega arith)) (rw (u .viewed) refl)
+  unfolding viewOf compiledUnit
+  structDefs-in = nth-table 4 (rw (u .viewed) refl) (stand .structDefs)
 
   pub structInstantiations-in : TableIn structDefInstantiation s index (view .«struct_instantiations») (compiledUnit (u .decoded) .structInstantiations)
-  unfolding viewOf baseFrom placesOf compiledUnit
-  structInstantiations-in = nth-table 5 (view .«struct_instantiations») (stand .structInstantiations) (rw (u .viewed) (omega arith)) (rw (u .viewed) refl)
+  unfolding viewOf compiledUnit
+  structInstantiations-in = nth-table 5 (rw (u .viewed) refl) (stand .structInstantiations)
 
   pub fieldHandles-in : TableIn fieldHandle s index (view .«field_handles») (compiledUnit (u .decoded) .fieldHandles)
-  unfolding viewOf baseFrom placesOf compiledUnit
-  fieldHandles-in = nth-table 6 (view .«field_handles») (stand .fieldHandles) (rw (u .viewed) (omega arith)) (rw (u .viewed) refl)
+  unfolding viewOf compiledUnit
+  fieldHandles-in = nth-table 6 (rw (u .viewed) refl) (stand .fieldHandles)
 
   pub fieldInstantiations-in : TableIn fieldInstantiation s index (view .«field_instantiations») (compiledUnit (u .decoded) .fieldInstantiations)
-  unfolding viewOf baseFrom placesOf compiledUnit
-  fieldInstantiations-in = nth-table 7 (view .«field_instantiations») (stand .fieldInstantiations) (rw (u .viewed) (omega arith)) (rw (u .viewed) refl)
+  unfolding viewOf compiledUnit
+  fieldInstantiations-in = nth-table 7 (rw (u .viewed) refl) (stand .fieldInstantiations)
 
   pub constants-in : TableIn (type (commandsOf (u .decoded .head))) s index (view .constants) (compiledUnit (u .decoded) .constants)
-  unfolding viewOf baseFrom placesOf compiledUnit
-  constants-in = nth-table 8 (view .constants) (stand .constants) (rw (u .viewed) (omega arith)) (rw (u .viewed) refl)
+  unfolding viewOf compiledUnit
+  constants-in = nth-table 8 (rw (u .viewed) refl) (stand .constants)
 
   pub blocks-in : TableIn block s index (view .blocks) (compiledUnit (u .decoded) .blocks)
-  unfolding viewOf baseFrom placesOf compiledUnit
-  blocks-in = nth-table 9 (view .blocks) (stand .blocks) (rw (u .viewed) (omega arith)) (rw (u .viewed) refl)
+  unfolding viewOf compiledUnit
+  blocks-in = nth-table 9 (rw (u .viewed) refl) (stand .blocks)
 
 -- ── an entry of a table ──
 

@@ -1,11 +1,12 @@
 -- `read_code`: at each turn the places of the instructions so far stand in the index.
-use mathlib.Core.Path.{sym, ap, _∙_}
+use mathlib.Core.Path.{_≡_, sym, ap, _∙_}
 use Prim.Native.Nat.{ℕ, _+_, _-_}
 use native.Mathlib.Omega.{arith}
 use borrow.Author.Needs.{needs}
+use denote.Ref.{now}
 use Rattle.definitions.specs.CompiledUnit as defs
 use Rattle.definitions.specs.Commands.{commandsOf}
-use Rattle.definitions.specs.Reading.{read}
+use Rattle.definitions.specs.Reading.{read, u16}
 use Rattle.definitions.specs.Reader.{instruction}
 use Rattle.record_reader.specs.Ends.{reads-within, instruction-reaches}
 use Rattle.unit.proofs.TableLoop.{got-next, got-refused}
@@ -18,6 +19,15 @@ Inv-loop s from index₀ base count widths at₀ n₀ index at n = (h : defs.Hea
 
 abbrev μ-loop : tie.MeasureT-loop
 μ-loop s from index₀ base count widths at₀ n₀ index at n = count - n
+
+-- the count stands before the instructions
+counts :
+    (c : tie.After-operand-widths Inv-loop μ-loop) →
+    let a = c .before .before .before .before .before .before .args in
+    u16 (now (a .s)) (a .from) ≡ read (c .before .u16-at .result) (a .from + 1 + 1)
+counts c =
+    let a = c .before .before .before .before .before .before .args in
+    u16-next _ _ (c .before .before .if2 .left) ∙ ap (λ (m : ℕ). read m (a .from + 1 + 1)) (sym (c .before .u16-at .ensures))
 
 pub read-code-spec : {M : Type 1} → statement M
 read-code-spec =
@@ -37,10 +47,10 @@ read-code-spec =
     (λ c κs. c .before .before .before .operand-widths .ensures)
     (λ c. search needs)
     (λ c. omega (arith, c .before .before .before .before .before .before .loop .inv defs.Module .long))
-    (λ c. let a = c .before .before .before .before .before .before .before .before .before .before .before .before .before .args in
-    let q = u16-next _ _ (c .before .before .before .before .before .before .before .before .before .if2 .left) ∙ ap (λ (m : ℕ). read m (a .from + 1 + 1)) (sym (c .before .before .before .before .before .before .before .before .u16-at .ensures)) in
-    code-answers-refused _ _ _ _ _ (λ h. code-stops-in _ _ _ q
-    (code-refused (c .before .before .before .before .before .before .loop .inv h) (c .before .before .before .before .before .loop-test .taken) _ _ (got-refused _ _ _ (sym (c .before .before .before .read-instruction .ensures h) ∙ c .before .status .given .1)))))
+    (λ c. let turn = c .before .before .before .before .before .before in
+    let r : (h : defs.Head) → _ = λ h. got-refused _ _ _ (sym (c .before .before .before .read-instruction .ensures h) ∙ c .before .status .given .1) in
+    code-answers-refused _ _ _ _ _ (λ h.
+    code-stops-in _ _ _ (counts (turn .before)) (code-refused (turn .loop .inv h) (c .before .before .before .before .before .loop-test .taken) _ _ (r h))))
     (λ c. search needs)
     (λ c. let v = c .before .before .before .before .before .before .loop .inv defs.Module in omega (arith, v .room .small))
     (λ c. let v = c .before .before .before .before .before .before .loop .inv defs.Module in omega (arith, v .room .below, v .room .small))
@@ -52,10 +62,8 @@ read-code-spec =
     (λ c. let v = c .before .before .before .before .before .before .loop .inv defs.Module in omega (arith, v .room .small))
     (λ c. omega arith)
     (λ c. λ h.
+    let v = c .before .before .before .before .before .before .loop .inv h in
     let g = got-next _ _ (sym (c .before .before .before .read-instruction .ensures h) ∙ c .before .end .given .1) in
-    code-more (c .before .before .before .before .before .before .loop .inv h) (c .before .before .before .before .before .loop-test .taken) (instruction-reaches (commandsOf h)) (g .0) _ (g .1))
-    (λ c κs. let v = c .before .loop .inv defs.Module in omega (arith, v .room .below, v .room .small))
-    (λ c. omega (arith, c .before .before .loop .inv defs.Module .long))
-    (λ c. let a = c .before .before .before .before .before .before .before .before .before .args in
-    let q = u16-next _ _ (c .before .before .before .before .before .if2 .left) ∙ ap (λ (m : ℕ). read m (a .from + 1 + 1)) (sym (c .before .before .before .before .u16-at .ensures)) in
-    code-answers-read _ _ _ _ _ (λ h. c .before .before .loop .inv h) q (c .before .loop-test .left) (c .records .ensures)))
+    code-more v (c .before .before .before .before .before .loop-test .taken) (instruction-reaches (commandsOf h)) (g .0) _ (g .1))
+    (λ c. omega (arith, c .before .loop .inv defs.Module .long))
+    (λ c. code-answers-read _ _ _ _ _ (λ h. c .before .loop .inv h) (counts (c .before .before)) (c .loop-test .left)))

@@ -1,64 +1,51 @@
--- `read_tables`: four tables, four tables and the constants, each filled behind the last.
-use mathlib.Core.Path.{refl}
+-- `read_tables`: at each turn the tables so far stand in the index, and where each begins in the bases.
+use Prim.Native.Nat.{_-_}
 use native.Mathlib.Omega.{arith}
-use Rattle.unit.proofs.Filling.{tables-refused-1, tables-refused-2, tables-refused-3, tables-answers}
-use Rattle.unit.proofs.Calls.{told-table, refused-table, ToldFour, told-four, refused-four}
 use borrow.Author.Needs.{needs}
+use Rattle.definitions.specs.Commands.{commandsOf}
+use Rattle.unit.specs.Filled.{headOf}
+use Rattle.unit.proofs.TablesLoop.{InTables, ten, tables-start, tables-more, tables-refused, tables-answer-refused, tables-answer}
+use Rattle.unit.proofs.Calls.{ToldTable, told-table, refused-table}
 use Rattle.unit.proofs.read_tables.Statement.{statement}
 use Rattle.unit.proofs.read_tables.Tie as tie
 
--- from the place where the definitions are known and the constants are about to be read to that of the handles, and to the function's entry
-abbrev to-handles : tie.After-end2 → tie.After-end
-to-handles c = c .before .before .before .before .before .before .before .before .before
+abbrev Inv-loop : tie.InvT-loop
+Inv-loop s head index₀ bases₀ at₀ base₀ i₀ index bases at base i = InTables (commandsOf (headOf head)) s index₀ index bases at base i
 
-abbrev entry : tie.After-end → tie.Start
-entry c = c .before .before .before .before .before .before .before .before .before .before .before .before
+abbrev μ-loop : tie.MeasureT-loop
+μ-loop s head index₀ bases₀ at₀ base₀ i₀ index bases at base i = 9 - i
 
--- what each call of `read_four` told
-handles :
-    (c : tie.After-end) →
-    let k = c .before .before .before .before in
-    ToldFour (k .before .before .before .before .read-four) (k .handles .given) (c .end .result)
-handles c =
-    let k = c .before .before .before .before in
-    told-four (k .before .before .before .before .read-four) (entry c .pre) (k .handles .given) (c .end .ensures)
-
-definitions :
-    (c : tie.After-end2) →
-    let k = c .before .before .before .before in
-    ToldFour (k .before .before .before .before .read-four2) (k .definitions .given) (c .end2 .result)
-definitions c =
-    let k = c .before .before .before .before in
-    told-four (k .before .before .before .before .read-four2) (handles (to-handles c) .room) (k .definitions .given) (c .end2 .ensures)
+-- what the call told in a turn
+one : (c : tie.After-known-told2 Inv-loop μ-loop) → ToldTable (c .before .before .before .before .before .read-table) (c .before .count .given)
+one c =
+    let r = c .before .before .before .before .before in
+    told-table (r .read-table) (r .before .before .before .loop .inv .room) (c .before .count .given)
 
 pub read-tables-spec : {M : Type 1} → statement M
 read-tables-spec =
     tie.close
     (tie.spec
-    (λ c κs. search needs)
+    Inv-loop
+    μ-loop
+    (λ c. let start = c .before .before .before in tables-start _ (start .pre .0) (start .pre .1))
+    (λ c. omega arith)
+    (λ c κs. c .before .before .loop .inv .room)
     (λ c. search needs)
-    (λ c. search needs)
-    (λ c κs. search needs)
-    (λ c κs. (handles c .room, omega arith))
-    (λ c. search needs)
-    (λ c. search needs)
-    (λ c κs. search needs)
-    (λ c κs. definitions c .room)
-    (λ c. search needs)
-    (λ c. search needs)
-    (λ c. search needs)
+    (λ c. let r = c .before .before .before .before .before in omega (arith, r .read-table .kept, r .before .before .before .loop .inv .long))
+    (λ c. let turn = c .before .before .before .before .before .before .before in
+    omega (arith, turn .before .loop .inv .rows .size, ten (turn .before .before .before .before .before .pre .1)))
     (λ c. let r = c .before .before .before .before .before in
-    tables-refused-1 _ _ _ _ _ (refused-four (r .read-four) (c .before .status .given .1)))
+    let turn = r .before .before in
+    tables-answer-refused _ _ _ _ _ (tables-refused (turn .before .loop .inv) (turn .loop-test .taken) (refused-table (r .read-table) (c .before .status .given .1))))
     (λ c. search needs)
-    (λ c. let r = c .before .before .before .before .before in
-    tables-refused-2 _ _ _ (handles (r .before)) _ (refused-four (r .read-four2) (c .before .status2 .given .1)))
-    (λ c. let r = c .before .before .before .before .before in
-    omega (arith, handles (to-handles (r .before)) .long, definitions (r .before) .long, r .read-table .kept))
-    (λ c. let r = c .before .before .before .before .before in
-    let q = refused-table (r .read-table) (c .before .status3 .given .1) in
-    tables-refused-3 _ _ _ (handles (to-handles (r .before))) (definitions (r .before)) _ q)
-    (λ c. let r = c .before .before .before .before .before in
-    omega (arith, handles (to-handles (r .before)) .long, definitions (r .before) .long, r .read-table .kept))
-    (λ c. let r = c .before .before .before .before .before in
-    let constants = told-table (r .read-table) (definitions (r .before) .room) (c .before .constants .given) refl in
-    tables-answers _ _ _ (handles (to-handles (r .before))) (definitions (r .before)) constants))
+    (λ c. let g = one c in omega (arith, g .room .below, g .room .inside, g .room .small))
+    (λ c. search needs)
+    (λ c. omega arith)
+    (λ c. omega arith)
+    (λ c. omega (arith, c .before .before .before .before .before .before .before .before .loop .inv .rows .size))
+    (λ c. omega arith)
+    (λ c. omega arith)
+    (λ c. let turn = c .before .before .before .before .before .before .before in tables-more (turn .before .loop .inv) (turn .loop-test .taken) (one c))
+    (λ c. omega (arith, c .before .loop .inv .long))
+    (λ c. omega (arith, c .before .loop .inv .rows .size, ten (c .before .before .before .before .before .pre .1)))
+    (λ c. tables-answer _ _ _ (c .before .loop .inv) (c .loop-test .left)))
