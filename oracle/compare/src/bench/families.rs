@@ -15,14 +15,12 @@ pub struct Family {
 pub fn families() -> Vec<Family> {
     vec![
         family("small", generated::small()),
+        lent("small, area 1,024", 1_024, generated::small()),
         family("medium", generated::medium()),
         family("largest", generated::largest()),
         family("3,000 CallGeneric of 64 types", vec![calls()]),
         family("10,000 CopyLoc of the last of 200 locals", vec![copies()]),
-        Family {
-            name: "21,000 entries by VecUnpack, area 65,535",
-            cases: vec![Case { unit: unpacks().write(), area: LONGEST_AREA }],
-        },
+        lent("21,000 entries by VecUnpack, area 65,535", LONGEST_AREA, vec![unpacks()]),
         family("3,000 blocks that all overlap", vec![overlapping()]),
         family("2,000 Call of u64 to u64", vec![short_calls()]),
         family("1,500 Pack and Unpack of two fields", vec![packs()]),
@@ -34,7 +32,12 @@ pub fn families() -> Vec<Family> {
 
 /// Units with the usual area.
 fn family(name: &'static str, units: Vec<Unit>) -> Family {
-    let case = |unit: &Unit| Case { unit: unit.write(), area: USUAL_AREA };
+    lent(name, USUAL_AREA, units)
+}
+
+/// Units with an area of that length.
+fn lent(name: &'static str, area: usize, units: Vec<Unit>) -> Family {
+    let case = |unit: &Unit| Case { unit: unit.write(), area };
     Family { name, cases: units.iter().map(case).collect() }
 }
 
