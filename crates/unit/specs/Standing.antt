@@ -78,6 +78,13 @@ module _ (commands : Commands) (s : List ℕ) where
       let p = parts u16 (λ n. many n (placed (instruction commands))) s at h in
       many-stand (p .value) (p .middle) l e (p .second)
 
+-- Two readers in turn, the parts of what was read bound to names: a chain of them that is taken apart by `let` writes out what came before at
+-- each step.
+in-turn :
+    {A B : Type 0} (m : Reader A) (f : A → Reader B) (s : List ℕ) (at : ℕ) {b : B} {e : ℕ} → (m >>= f) s at ≡ read b e →
+    {C : Type 0} → ((middle : ℕ) (value : A) → m s at ≡ read value middle → f value s middle ≡ read b e → C) → C
+in-turn m f s at h k = let p = parts m f s at h in k (p .middle) (p .value) (p .first) (p .second)
+
 -- ── the tables ──
 
 module _ (commands : Commands) (s : List ℕ) where
@@ -99,28 +106,27 @@ module _ (commands : Commands) (s : List ℕ) where
   tables-stand : (at : ℕ) (t : UnitTables) (e : ℕ) → unitTables commands s at ≡ read t e → TablesStand t
   unfolding unitTables
   tables-stand at t e h =
-      let a = parts (table commands 0x10 structHandle) _ s at h in
-      let b = parts (table commands 0x11 (types commands)) _ s (a .middle) (a .second) in
-      let c = parts (table commands 0x12 functionHandle) _ s (b .middle) (b .second) in
-      let d = parts (table commands 0x13 functionInstantiation) _ s (c .middle) (c .second) in
-      let f = parts (table commands 0x14 (structDefinition commands)) _ s (d .middle) (d .second) in
-      let g = parts (table commands 0x15 structDefInstantiation) _ s (f .middle) (f .second) in
-      let i = parts (table commands 0x16 fieldHandle) _ s (g .middle) (g .second) in
-      let j = parts (table commands 0x17 fieldInstantiation) _ s (i .middle) (i .second) in
-      let k = parts (table commands 0x18 (type commands)) _ s (j .middle) (j .second) in
-      let z = made s (k .second) .0 in
-      rw (← z)
+      in-turn (table commands 0x10 structHandle) _ s at h (λ e1 l1 q1 h1.
+      in-turn (table commands 0x11 (types commands)) _ s e1 h1 (λ e2 l2 q2 h2.
+      in-turn (table commands 0x12 functionHandle) _ s e2 h2 (λ e3 l3 q3 h3.
+      in-turn (table commands 0x13 functionInstantiation) _ s e3 h3 (λ e4 l4 q4 h4.
+      in-turn (table commands 0x14 (structDefinition commands)) _ s e4 h4 (λ e5 l5 q5 h5.
+      in-turn (table commands 0x15 structDefInstantiation) _ s e5 h5 (λ e6 l6 q6 h6.
+      in-turn (table commands 0x16 fieldHandle) _ s e6 h6 (λ e7 l7 q7 h7.
+      in-turn (table commands 0x17 fieldInstantiation) _ s e7 h7 (λ e8 l8 q8 h8.
+      in-turn (table commands 0x18 (type commands)) _ s e8 h8 (λ e9 l9 q9 h9.
+      subst (λ (t : UnitTables). TablesStand t) (made s h9 .0)
       (record {
-        structHandles = stands 0x10 structHandle _ (a .first);
-        signatures = stands 0x11 (types commands) _ (b .first);
-        functionHandles = stands 0x12 functionHandle _ (c .first);
-        functionInstantiations = stands 0x13 functionInstantiation _ (d .first);
-        structDefs = stands 0x14 (structDefinition commands) _ (f .first);
-        structInstantiations = stands 0x15 structDefInstantiation _ (g .first);
-        fieldHandles = stands 0x16 fieldHandle _ (i .first);
-        fieldInstantiations = stands 0x17 fieldInstantiation _ (j .first);
-        constants = stands 0x18 (type commands) _ (k .first);
-      })
+        structHandles = stands 0x10 structHandle at q1;
+        signatures = stands 0x11 (types commands) e1 q2;
+        functionHandles = stands 0x12 functionHandle e2 q3;
+        functionInstantiations = stands 0x13 functionInstantiation e3 q4;
+        structDefs = stands 0x14 (structDefinition commands) e4 q5;
+        structInstantiations = stands 0x15 structDefInstantiation e5 q6;
+        fieldHandles = stands 0x16 fieldHandle e6 q7;
+        fieldInstantiations = stands 0x17 fieldInstantiation e7 q8;
+        constants = stands 0x18 (type commands) e8 q9;
+      }))))))))))
 
 -- ── the unit ──
 
