@@ -1,16 +1,17 @@
 -- Effects that are looked up: one look-up after another, what each look-up of the unit tells, a call's effect by the counts of its two
--- signatures, the decision over the opcode, and the entry of the table.
+-- signatures, the decision over the opcode, and the pair of an instruction's opcode.
 use mathlib.Core.Path.{_≡_, refl, sym, ap, _∙_}
 use mathlib.Core.Bool.{Bool, true, false, _||_}
 use mathlib.Core.List.{List, [], _∷_, _++_}
-use Prim.Native.Nat.{ℕ, _/_, _%_}
+use Prim.Native.Nat.{ℕ, _<_}
 use lib.Dec.{eqb}
-use lib.ListN.{length, getD}
+use lib.ListN.{length}
 use borrow.Author.Tests.{eqb-true, eq-eqb, ne-eqb}
 use Rattle.status.specs.declared.StatusCode.{StatusCode}
 use Rattle.definitions.specs.Result.{Result, ok, err, _>>?_}
 use Rattle.definitions.specs.SignatureToken.{Signature}
 use Rattle.definitions.specs.CompiledUnit.{CompiledUnit, FunctionHandle, StructDefinition, StructFieldInformation, Native, Declared, signatureAt}
+use Rattle.definitions.specs.Reader.{compiledUnit}
 use Rattle.definitions.specs.Commands.{oneOf}
 use Rattle.definitions.specs.StackUsage.{_⇒_, fieldCount, callEffect, instructionEffect}
 use Rattle.record_views.specs.declared.Instruction.{Instruction}
@@ -18,10 +19,14 @@ use Rattle.record_views.specs.declared.Fields.{Fields}
 use Rattle.unit_views.specs.declared.SignatureResult.{SignatureResult}
 use Rattle.unit_views.specs.declared.StructDefResult.{StructDefResult}
 use Rattle.record_views.specs.Records.{FieldsAre, instructionOf}
-use Rattle.code_views.specs.Answers.{InstructionAt, OpcodeAt}
+use Rattle.unit.specs.declared.View.{View}
+use Rattle.unit.specs.Views.{UnitRead}
+use Rattle.code_views.specs.Answers.{opcodeByte, InstructionAt, OpcodeAt}
+use Rattle.code_views.specs.Lookups.{opcode-is}
 use Rattle.unit_views.specs.Answers.{SignatureIs, signatureAnswer, StructDefIs, structDefAnswer}
+use Rattle.instruction_effect.specs.declared.Effect.{Effect}
 use Rattle.instruction_effect.specs.declared.EffectResult.{EffectResult}
-use Rattle.instruction_effect.specs.Effects.{looksUp, EntryOf, EffectTable}
+use Rattle.instruction_effect.specs.Effects.{looksUp, PairOf, EntryOf}
 use Rattle.instruction_effect.specs.Answers.{effectResult, InstructionEffectAt}
 
 module _ {A B : Type 0} (f : A → Result B) {x : Result A} where
@@ -135,16 +140,22 @@ module _ {u : CompiledUnit} {i o : ℕ} {instruction : Instruction} (a : Instruc
   unfolding looksUp
   vec-unpack h r = last-of (Unit {0}) arms 69 (instruction .opcode) r .1 (rw (a .opcode) h)
 
--- ── the table ──
+-- ── the pair of an instruction's opcode ──
 
-module _ {table : List ℕ} (h : EffectTable table) {u : CompiledUnit} {i o opcode : ℕ} (a : OpcodeAt u i o opcode) where
-  entry : EntryOf u (a .local) (a .operand) (a .count) opcode (getD table opcode 0)
-  entry = h .entry u (a .local) (a .operand) (a .count) opcode (a .known)
+module _ {s index : List ℕ} {view : View} {i : ℕ} (p : UnitRead s index view) (within : i < view .code .count) where
+  -- the instruction has its opcode and some operands
+  here : OpcodeAt (compiledUnit (p .decoded)) i (opcodeByte s index view i) (opcodeByte s index view i)
+  unfolding opcodeByte
+  here = opcode-is p within refl refl
 
-  -- an opcode whose entry is marked looks its effect up
-  pub marked : getD table opcode 0 ≡ 0xFF → looksUp o ≡ true
-  marked k = ap looksUp (sym (a .opcode)) ∙ entry .marked ∙ eq-eqb _ _ k
+  module _ {pair : Effect} (h : EntryOf (opcodeByte s index view i) pair) where
+    entry : PairOf (compiledUnit (p .decoded)) (here .local) (here .operand) (here .count) (opcodeByte s index view i) pair
+    entry = h .is _ _ _ _
 
-  -- any other has the table's effect
-  pub in-table : (getD table opcode 0 ≡ 0xFF → ⊥) → InstructionEffectAt u i (EffectResult.Found (getD table opcode 0 / 16) (getD table opcode 0 % 16))
-  in-table k = record { instruction = _; stands = a .is; effect = sym (entry .agrees (entry .marked ∙ ne-eqb _ _ k)) }
+    -- one whose pair is marked looks its effect up
+    pub marked : pair .0 ≡ 0xFF → looksUp (opcodeByte s index view i) ≡ true
+    marked k = entry .marked ∙ eq-eqb _ _ k
+
+    -- any other has the pair's effect
+    pub in-table : (pair .0 ≡ 0xFF → ⊥) → InstructionEffectAt (compiledUnit (p .decoded)) i (EffectResult.Found (pair .0) (pair .1))
+    in-table k = record { instruction = _; stands = here .is; effect = sym (entry .agrees (entry .marked ∙ ne-eqb _ _ k)) }

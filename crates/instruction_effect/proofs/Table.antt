@@ -10,9 +10,10 @@ use lib.Dec.{T, eqb, eqb→eq}
 use lib.ListN.{length, getD}
 use Rattle.definitions.specs.Result.{Result, ok, err}
 use Rattle.definitions.specs.CompiledUnit.{CompiledUnit}
-use Rattle.definitions.specs.StackUsage.{Effect, instructionEffect}
+use Rattle.definitions.specs.StackUsage as defs
 use Rattle.record_views.specs.Records.{instructionOf}
-use Rattle.instruction_effect.specs.Effects.{looksUp, pairOf, EffectTable}
+use Rattle.instruction_effect.specs.declared.Effect.{Effect}
+use Rattle.instruction_effect.specs.Effects.{looksUp, effectOf, EffectTable}
 
 and-left : (a b : Bool) → T (a && b) → T a
 and-left true b t = tt
@@ -39,38 +40,39 @@ module _ {A : Type 0} (d : A) (f : ℕ → A → Bool) where
 
 -- ── the test ──
 
-abbrev sameEffect : Result Effect → Effect → Bool
+abbrev sameEffect : Result defs.Effect → defs.Effect → Bool
 sameEffect (ok e) p = eqb (e .pops) (p .pops) && eqb (e .pushes) (p .pushes)
 sameEffect (err status) p = false
 
-same-effect : (r : Result Effect) (p : Effect) → T (sameEffect r p) → r ≡ ok p
+same-effect : (r : Result defs.Effect) (p : defs.Effect) → T (sameEffect r p) → r ≡ ok p
 same-effect (ok e) p t =
     let pops = eqb→eq (e .pops) (p .pops) (and-left (eqb (e .pops) (p .pops)) (eqb (e .pushes) (p .pushes)) t) in
     let pushes = eqb→eq (e .pushes) (p .pushes) (and-right (eqb (e .pops) (p .pops)) (eqb (e .pushes) (p .pushes)) t) in
     λ i. ok (record { pops = pops i; pushes = pushes i })
 same-effect (err status) p t = absurd t
 
--- the test of an entry, by whether the opcode looks its effect up and whether the byte is the mark
-abbrev passes : Bool → Bool → Result Effect → Effect → Bool
+-- the test of an entry, by whether the opcode looks its effect up and whether the pair is marked
+abbrev passes : Bool → Bool → Result defs.Effect → defs.Effect → Bool
 passes true marked r p = marked
 passes false true r p = false
 passes false false r p = sameEffect r p
 
 -- at each entry, with the unit and the operands left open
-unfoldable pub agrees : CompiledUnit → ℕ → ℕ → ℕ → ℕ → ℕ → Bool
-agrees u l x n opcode byte = passes (looksUp opcode) (eqb byte 0xFF) (instructionEffect u (instructionOf opcode l x n)) (pairOf byte)
+unfoldable pub agrees : CompiledUnit → ℕ → ℕ → ℕ → ℕ → Effect → Bool
+agrees u l x n opcode pair = passes (looksUp opcode) (eqb (pair .0) 0xFF) (defs.instructionEffect u (instructionOf opcode l x n)) (effectOf pair)
 
--- 71 bytes that pass the test are those of the opcodes
-pub tested : (table : List ℕ) → length table ≡ 71 → ((u : CompiledUnit) (l x n : ℕ) → T (every (agrees u l x n) 0 table)) → EffectTable table
+-- 71 pairs that pass the test are those of the opcodes
+pub tested : (table : List Effect) → length table ≡ 71 → ((u : CompiledUnit) (l x n : ℕ) → T (every (agrees u l x n) 0 table)) → EffectTable table
 unfolding agrees
 tested table long t = record {
-  long = long;
-  entry = λ u l x n opcode h.
-      let k = passed (looksUp opcode) _ _ _ (at 0 (agrees u l x n) table (t u l x n) opcode (omega arith)) in
-      record { marked = k .0; agrees = k .1 };
+  entry = λ opcode h d. record {
+    is = λ u l x n.
+        let k = passed (looksUp opcode) _ _ _ (at d (agrees u l x n) table (t u l x n) opcode (omega arith)) in
+        record { marked = k .0; agrees = k .1 };
+  };
 }
   where
-    passed : (looks marked : Bool) (r : Result Effect) (p : Effect) → T (passes looks marked r p) → (looks ≡ marked) × (looks ≡ false → r ≡ ok p)
+    passed : (looks marked : Bool) (r : Result defs.Effect) (p : defs.Effect) → T (passes looks marked r p) → (looks ≡ marked) × (looks ≡ false → r ≡ ok p)
     passed true true r p t = (refl, λ e. let z : _≡_ {A = ℕ} 0 1 = cc in absurd (omega arith))
     passed true false r p t = absurd t
     passed false true r p t = absurd t

@@ -24,8 +24,11 @@ ghost use Rattle.definitions.specs.StackUsage.{_⇒_, callEffect, fieldCountAt,
 ghost use Rattle.unit.specs.Views.{UnitRead};
 ghost use Rattle.code_views.specs.Answers.{opcodeByte};
 ghost use Rattle.handle_views.specs.Answers.{handleOf};
-ghost use Rattle.instruction_effect.specs.Effects.{looksUp, EffectTable};
+ghost use Rattle.instruction_effect.specs.Effects.{looksUp, EntryOf, EffectTable};
 ghost use Rattle.instruction_effect.specs.Answers.{effectResult, countResult, InstructionEffectAt};
+
+// What an opcode pops and pushes.
+pub struct Effect(pub u8, pub u8);
 
 // The pops and the pushes of an instruction, or the status of a refusal: the Rust's `PartialVMResult<(u64, u64)>`.
 pub enum EffectResult {
@@ -39,88 +42,86 @@ pub enum FieldCount {
     Refused(StatusCode),
 }
 
-// The entry of an opcode whose effect is looked up.
+// The mark in the pair of an opcode whose effect is looked up.
 const LOOKED_UP: u8 = 0xFF;
 
-// The effects of the opcodes 0 to 70, each a pair in one byte: the first hexadecimal digit is how many values it pops, the second how many it
-// then pushes. Those that look theirs up are marked. The table is made once for a call and lent, since a constant is made anew wherever it is
-// named.
-const EFFECTS: [u8; 71] = [
-    0x10, // Pop
-    LOOKED_UP, // Ret
-    0x10, // BrTrue
-    0x10, // BrFalse
-    0x00, // Branch
-    0x01, // LdU8
-    0x01, // LdU64
-    0x01, // LdU128
-    0x11, // CastU8
-    0x11, // CastU64
-    0x11, // CastU128
-    0x01, // LdConst
-    0x01, // LdTrue
-    0x01, // LdFalse
-    0x01, // CopyLoc
-    0x01, // MoveLoc
-    0x10, // StLoc
-    LOOKED_UP, // Call
-    LOOKED_UP, // CallGeneric
-    LOOKED_UP, // Pack
-    LOOKED_UP, // PackGeneric
-    LOOKED_UP, // Unpack
-    LOOKED_UP, // UnpackGeneric
-    0x11, // ReadRef
-    0x20, // WriteRef
-    0x11, // FreezeRef
-    0x01, // MutBorrowLoc
-    0x01, // ImmBorrowLoc
-    0x11, // MutBorrowField
-    0x11, // MutBorrowFieldGeneric
-    0x11, // ImmBorrowField
-    0x11, // ImmBorrowFieldGeneric
-    0x11, // MutBorrowGlobal
-    0x11, // MutBorrowGlobalGeneric
-    0x11, // ImmBorrowGlobal
-    0x11, // ImmBorrowGlobalGeneric
-    0x21, // Add
-    0x21, // Sub
-    0x21, // Mul
-    0x21, // Mod
-    0x21, // Div
-    0x21, // BitOr
-    0x21, // BitAnd
-    0x21, // Xor
-    0x21, // Or
-    0x21, // And
-    0x11, // Not
-    0x21, // Eq
-    0x21, // Neq
-    0x21, // Lt
-    0x21, // Gt
-    0x21, // Le
-    0x21, // Ge
-    0x10, // Abort
-    0x00, // Nop
-    0x11, // Exists
-    0x11, // ExistsGeneric
-    0x11, // MoveFrom
-    0x11, // MoveFromGeneric
-    0x20, // MoveTo
-    0x20, // MoveToGeneric
-    0x21, // Shl
-    0x21, // Shr
-    LOOKED_UP, // VecPack
-    0x11, // VecLen
-    0x21, // VecImmBorrow
-    0x21, // VecMutBorrow
-    0x20, // VecPushBack
-    0x11, // VecPopBack
-    LOOKED_UP, // VecUnpack
-    0x30, // VecSwap
+// The effects of the opcodes 0 to 70. The table is made once for a block, since a constant is made anew wherever it is named.
+const EFFECTS: [Effect; 71] = [
+    Effect(1, 0), // Pop
+    Effect(LOOKED_UP, LOOKED_UP), // Ret
+    Effect(1, 0), // BrTrue
+    Effect(1, 0), // BrFalse
+    Effect(0, 0), // Branch
+    Effect(0, 1), // LdU8
+    Effect(0, 1), // LdU64
+    Effect(0, 1), // LdU128
+    Effect(1, 1), // CastU8
+    Effect(1, 1), // CastU64
+    Effect(1, 1), // CastU128
+    Effect(0, 1), // LdConst
+    Effect(0, 1), // LdTrue
+    Effect(0, 1), // LdFalse
+    Effect(0, 1), // CopyLoc
+    Effect(0, 1), // MoveLoc
+    Effect(1, 0), // StLoc
+    Effect(LOOKED_UP, LOOKED_UP), // Call
+    Effect(LOOKED_UP, LOOKED_UP), // CallGeneric
+    Effect(LOOKED_UP, LOOKED_UP), // Pack
+    Effect(LOOKED_UP, LOOKED_UP), // PackGeneric
+    Effect(LOOKED_UP, LOOKED_UP), // Unpack
+    Effect(LOOKED_UP, LOOKED_UP), // UnpackGeneric
+    Effect(1, 1), // ReadRef
+    Effect(2, 0), // WriteRef
+    Effect(1, 1), // FreezeRef
+    Effect(0, 1), // MutBorrowLoc
+    Effect(0, 1), // ImmBorrowLoc
+    Effect(1, 1), // MutBorrowField
+    Effect(1, 1), // MutBorrowFieldGeneric
+    Effect(1, 1), // ImmBorrowField
+    Effect(1, 1), // ImmBorrowFieldGeneric
+    Effect(1, 1), // MutBorrowGlobal
+    Effect(1, 1), // MutBorrowGlobalGeneric
+    Effect(1, 1), // ImmBorrowGlobal
+    Effect(1, 1), // ImmBorrowGlobalGeneric
+    Effect(2, 1), // Add
+    Effect(2, 1), // Sub
+    Effect(2, 1), // Mul
+    Effect(2, 1), // Mod
+    Effect(2, 1), // Div
+    Effect(2, 1), // BitOr
+    Effect(2, 1), // BitAnd
+    Effect(2, 1), // Xor
+    Effect(2, 1), // Or
+    Effect(2, 1), // And
+    Effect(1, 1), // Not
+    Effect(2, 1), // Eq
+    Effect(2, 1), // Neq
+    Effect(2, 1), // Lt
+    Effect(2, 1), // Gt
+    Effect(2, 1), // Le
+    Effect(2, 1), // Ge
+    Effect(1, 0), // Abort
+    Effect(0, 0), // Nop
+    Effect(1, 1), // Exists
+    Effect(1, 1), // ExistsGeneric
+    Effect(1, 1), // MoveFrom
+    Effect(1, 1), // MoveFromGeneric
+    Effect(2, 0), // MoveTo
+    Effect(2, 0), // MoveToGeneric
+    Effect(2, 1), // Shl
+    Effect(2, 1), // Shr
+    Effect(LOOKED_UP, LOOKED_UP), // VecPack
+    Effect(1, 1), // VecLen
+    Effect(2, 1), // VecImmBorrow
+    Effect(2, 1), // VecMutBorrow
+    Effect(2, 0), // VecPushBack
+    Effect(1, 1), // VecPopBack
+    Effect(LOOKED_UP, LOOKED_UP), // VecUnpack
+    Effect(3, 0), // VecSwap
 ];
 
 // The table, with its rule: a constant has no contract of its own.
-pub fn effects() -> [u8; 71]
+pub fn effects() -> [Effect; 71]
     ensures { λ r. ⌜ EffectTable r ⌝ }
 {
     EFFECTS
@@ -273,23 +274,22 @@ fn looked_up_effect(s: &[u8], index: &[u16], view: View, i: usize) -> EffectResu
 
 // ── any instruction ──
 
-// What the i-th instruction pops and pushes: by the table of effects, and only where its entry is marked by the whole instruction.
+// What the i-th instruction pops and pushes: the pair that the table has for its opcode, and only where that is marked by the whole instruction.
 pub fn instruction_effect(
-    table: &[u8],
+    pair: Effect,
     s: &[u8],
     index: &[u16],
     view: View,
     i: usize,
 ) -> EffectResult
-    requires { ⌜ EffectTable (now table) ⌝ }
     requires { ⌜ UnitRead (now s) (now index) view ⌝ }
     requires { ⌜ i < view .code .count ⌝ }
+    requires { ⌜ EntryOf (opcodeByte (now s) (now index) view i) pair ⌝ }
     ensures { λ r. ⌜ ((p : UnitRead (now (s .entry)) (now (index .entry)) view) → InstructionEffectAt (compiledUnit (p .decoded)) i r) ⌝ }
 {
-    let opcode = code_views::opcode_at(s, index, view, i) as usize;
-    let pair = table[opcode];
-    if pair == LOOKED_UP {
+    let Effect(pops, pushes) = pair;
+    if pops == LOOKED_UP {
         return looked_up_effect(s, index, view, i);
     }
-    EffectResult::Found((pair / 16) as u64, (pair % 16) as u64)
+    EffectResult::Found(pops as u64, pushes as u64)
 }

@@ -13,7 +13,6 @@ ghost use Rattle.definitions.specs.StackUsage.{heightAfter, verifyBlock};
 ghost use Rattle.definitions.specs.Verify.{stackUsage};
 ghost use Rattle.unit.specs.Views.{UnitRead};
 ghost use Rattle.code_views.specs.Answers.{blockOf};
-ghost use Rattle.instruction_effect.specs.Effects.{EffectTable};
 ghost use Rattle.stack_usage_verifier.specs.Answers.{heightResult, blockResult};
 
 // The height of the stack after an instruction, or the status of a refusal.
@@ -43,17 +42,18 @@ fn height_after(height: u64, pops: u64, pushes: u64) -> Height
 }
 
 // A block, from its first to its last instruction: each block starts at height 0, and ends there.
-fn verify_block(table: &[u8], s: &[u8], index: &[u16], view: View, block: Block) -> BlockResult
-    requires { ⌜ EffectTable (now table) ⌝ }
+fn verify_block(s: &[u8], index: &[u16], view: View, block: Block) -> BlockResult
     requires { ⌜ UnitRead (now s) (now index) view ⌝ }
     requires { ⌜ (block .first ≤ block .last) × (block .last < view .code .count) ⌝ }
     ensures { λ r. ⌜ ((p : UnitRead (now (s .entry)) (now (index .entry)) view) → blockResult r ≡ verifyBlock (compiledUnit (p .decoded)) (blockOf block)) ⌝ }
 {
+    let table = instruction_effect::effects();
     let last = block.last as usize;
     let mut height = 0u64;
     let mut i = block.first as usize;
     while i <= last {
-        match instruction_effect::instruction_effect(table, s, index, view, i) {
+        let opcode = code_views::opcode_at(s, index, view, i) as usize;
+        match instruction_effect::instruction_effect(table[opcode], s, index, view, i) {
             EffectResult::Refused(status) => {
                 return BlockResult::Refused(status);
             }
@@ -80,13 +80,12 @@ pub fn verify(s: &[u8], index: &[u16], view: View) -> Verdict
     requires { ⌜ UnitRead (now s) (now index) view ⌝ }
     ensures { λ r. ⌜ ((p : UnitRead (now (s .entry)) (now (index .entry)) view) → r ≡ stackUsage (compiledUnit (p .decoded))) ⌝ }
 {
-    let table = instruction_effect::effects();
     let blocks = view.blocks;
     let count = blocks.count as usize;
     let mut block_id = 0usize;
     while block_id < count {
         let block = code_views::block_at(s, index, view, block_id);
-        match verify_block(&table, s, index, view, block) {
+        match verify_block(s, index, view, block) {
             BlockResult::Refused(status) => {
                 return status::refusal_at(status, Position::BlockStart(block.first));
             }

@@ -11,10 +11,10 @@ use Rattle.stack_usage_verifier.proofs.verify.Statement.{statement}
 use Rattle.stack_usage_verifier.proofs.verify.Tie as tie
 
 abbrev Inv-loop : tie.InvT-loop
-Inv-loop s index view table count i₀ i = (p : UnitRead s index view) → InBlocks (compiledUnit (p .decoded)) i
+Inv-loop s index view count i₀ i = (p : UnitRead s index view) → InBlocks (compiledUnit (p .decoded)) i
 
 abbrev μ-loop : tie.MeasureT-loop
-μ-loop s index view table count i₀ i = count - i
+μ-loop s index view count i₀ i = count - i
 
 enum-told : tie.Need-enum-told Inv-loop μ-loop
 enum-told c = search needs
@@ -25,19 +25,17 @@ verify-spec =
     (tie.spec
     Inv-loop
     μ-loop
-    (λ c κs. search needs)
     (λ c. search needs)
     (λ c p. blocks-start _)
-    (λ c κs. (c .before .before .before .before .before .before .before .pre, omega arith))
-    (λ c. search needs)
-    (λ c κs. let p = c .before .before .before .before .before .before .before .before .before .pre in
-    let b = c .before .block-at .ensures p in
-    (c .before .before .before .before .before .before .effects .ensures, (p, (b .ordered, b .within))))
+    (λ c κs. (c .before .before .before .before .before .before .pre, omega arith))
+    (λ c κs. let p = c .before .before .before .before .before .before .before .pre in
+    let b = c .block-at .ensures p in
+    (p, (b .ordered, b .within)))
     (λ c. search needs)
     (λ c κs. search needs)
-    (λ c p. c .refusal-at .ensures ∙ blocks-refused (c .before .before .before .before .before .before .before .before .loop .inv p) (c .before .before .before .before .before .before .block-at .ensures p .is) (rw (c .before .before .status .given .1) at (c .before .before .before .before .verify-block .ensures p)))
+    (λ c p. c .refusal-at .ensures ∙ blocks-refused (c .before .before .before .before .before .before .before .loop .inv p) (c .before .before .before .before .before .block-at .ensures p .is) (rw (c .before .before .status .given .1) at (c .before .before .before .before .verify-block .ensures p)))
     enum-told
     (λ c. omega arith)
     (λ c. omega arith)
-    (λ c p. blocks-next (c .before .before .before .before .before .before .loop .inv p) (c .before .before .before .before .block-at .ensures p .is) (rw (c .enum-told .given .1) at (c .before .before .verify-block .ensures p)))
+    (λ c p. blocks-next (c .before .before .before .before .before .loop .inv p) (c .before .before .before .block-at .ensures p .is) (rw (c .enum-told .given .1) at (c .before .before .verify-block .ensures p)))
     (λ c p. blocks-done (c .before .loop .inv p) (omega (arith, table-count (blocks-in p), c .loop-test .left))))
