@@ -142,6 +142,7 @@ module _ (u : CompiledUnit) (area : ℕ) where
 
   -- ── the theorems ──
 
+  -- what both passes accepted, walked in any order of listed blocks
   pub demand3 : stackUsage u ≡ Accepted → typeSafety u area ≡ Accepted → (bs : List Block) → Listed u bs → Clean u area bs []
   unfolding stackUsage typeSafety
   demand3 k v bs l = clean (each-block (u .blocks) k v) bs l
@@ -151,6 +152,7 @@ module _ (u : CompiledUnit) (area : ℕ) where
   unfolding bothPasses
   demand3-both v bs l = let (k, v′) = both-accepted _ _ v in demand3 k v′ bs l
 
+  -- of what stack usage accepted, the type pass never says EMPTY_STACK
   pub neverEmptyStack : stackUsage u ≡ Accepted → numberOf (typeSafety u area) ≡ 10 → ⊥
   unfolding stackUsage typeSafety refusal
   neverEmptyStack k v = go (walk u area (u .blocks) []) (blocks-keep (u .blocks) k) v
@@ -167,3 +169,9 @@ module _ (u : CompiledUnit) (area : ℕ) where
       go : (a : Verdict) → (a ≡ Accepted → numberOf (typeSafety u area) ≡ 10 → ⊥) → T (usageNumber (numberOf a)) → numberOf (ifAccepted a (typeSafety u area)) ≡ 10 → ⊥
       go Accepted h t v = h refl v
       go (Refused w p) h t v = usage-not-empty (statusNumber w) t v
+
+-- Demand 3 whole, of a unit that stack usage accepted: whatever the area, the type pass does not say EMPTY_STACK, and where it accepts, every
+-- list of listed blocks, in any order and with any repeats, is walked with no refusal and with an empty stack after each block.
+pub demand3-whole : (u : CompiledUnit) → stackUsage u ≡ Accepted →
+    ((area : ℕ) → numberOf (typeSafety u area) ≡ 10 → ⊥) × ((area : ℕ) → typeSafety u area ≡ Accepted → (bs : List Block) → Listed u bs → Clean u area bs [])
+demand3-whole u k = (λ area. neverEmptyStack u area k, λ area. demand3 u area k)

@@ -64,11 +64,13 @@ module _ (s : List ℕ) where
     unfolding bothVerdict
     accepted-reads-both v = let j = accepted area _ v in (j .decoded, j .ends, j .reads)
 
+    -- what two calls accepted, walked in any order of listed blocks
     pub demand3-bytes : stackUsageVerdict s area ≡ Accepted → typesVerdict s area ≡ Accepted →
         (d : Decoded) (e : ℕ) → readUnit s ≡ read d e → (bs : List Block) → Listed (compiledUnit d) bs → Clean (compiledUnit d) area bs []
     unfolding stackUsageVerdict typesVerdict
     demand3-bytes v v′ d e k = demand3 _ area (accepts _ (accepted area _ v) d e k) (accepts _ (accepted area _ v′) d e k)
 
+    -- what one call accepted
     pub demand3-bytes-both : bothVerdict s area ≡ Accepted →
         (d : Decoded) (e : ℕ) → readUnit s ≡ read d e → (bs : List Block) → Listed (compiledUnit d) bs → Clean (compiledUnit d) area bs []
     unfolding bothVerdict
@@ -82,12 +84,26 @@ module _ (s : List ℕ) where
   emptied : (area : ℕ) (judge : CompiledUnit → Verdict) → numberOf (reading s area judge) ≡ 10 → Judged IsEmptyStack judge
   emptied area judge v = judged area IsEmptyStack judge (λ e. omega arith) (λ w p k e. omega (arith, readUnit-stops s w p k .1)) v
 
+  -- of what one call's stack usage accepted, another's type pass never says EMPTY_STACK, whatever area each was lent
   pub neverEmptyStack-bytes : (area₁ area₂ : ℕ) → stackUsageVerdict s area₁ ≡ Accepted → numberOf (typesVerdict s area₂) ≡ 10 → ⊥
   unfolding stackUsageVerdict typesVerdict
   neverEmptyStack-bytes area₁ area₂ v v′ =
       let j = emptied area₂ _ v′ in
       neverEmptyStack (compiledUnit (j .decoded)) area₂ (accepts _ (accepted area₁ _ v) (j .decoded) (j .ends) (j .reads)) (j .holds)
 
+  -- nor does the call that runs both passes
   pub bothNeverEmptyStack : (area : ℕ) → numberOf (bothVerdict s area) ≡ 10 → ⊥
   unfolding bothVerdict
   bothNeverEmptyStack area v = let j = emptied area _ v in neverEmptyStack-both (compiledUnit (j .decoded)) area (j .holds)
+
+  -- ── demand 3 whole ──
+
+  -- of bytes that the call of stack usage accepted, whatever area that call and the call of types were lent
+  pub demand3-bytes-whole : (area₁ : ℕ) → stackUsageVerdict s area₁ ≡ Accepted →
+      ((area₂ : ℕ) → numberOf (typesVerdict s area₂) ≡ 10 → ⊥) ×
+      ((area₂ : ℕ) → typesVerdict s area₂ ≡ Accepted → (d : Decoded) (e : ℕ) → readUnit s ≡ read d e → (bs : List Block) → Listed (compiledUnit d) bs → Clean (compiledUnit d) area₂ bs [])
+  unfolding stackUsageVerdict typesVerdict
+  demand3-bytes-whole area₁ v = (
+    λ area₂. neverEmptyStack-bytes area₁ area₂ v,
+    λ area₂ v′ d e k. demand3 _ area₂ (accepts _ (accepted area₁ _ v) d e k) (accepts _ (accepted area₂ _ v′) d e k),
+  )
