@@ -1,5 +1,5 @@
-// `borrow_field` of type_safety.rs, with a struct's type arguments or without. What the operand is not, `&mut` where that is asked, is
-// refused before the field handle is looked up; a value where any reference would do, after it.
+// `borrow_field` of type_safety.rs, with a struct's type arguments or without. Where `&mut` is asked, an operand that is
+// none is refused before the field handle is looked up; where either reference will do, a value is refused after it.
 use file_format::FieldHandleIndex;
 use file_format::FieldInstantiationIndex;
 use handle_views::FieldHandleResult;
@@ -29,19 +29,19 @@ ghost use Rattle.unit.specs.Views.{UnitRead};
 ghost use Rattle.field_steps.specs.Borrows.{BorrowedAt, OwnerAt, FieldAt, BorrowsFrom, fieldOwner, OwnerIs};
 
 // An operand as what a field is borrowed from: where the struct stands, that it is no reference, or that it is not the `&mut` asked for.
-pub enum Borrowed {
+enum Borrowed {
     Inner(usize),
     Value,
     NotMutable,
 }
 
 // A field handle's struct definition, and the field's number in it.
-pub struct Owner {
-    pub def: StructDef,
-    pub field: u16,
+struct Owner {
+    def: StructDef,
+    field: u16,
 }
 
-pub enum OwnerResult {
+enum OwnerResult {
     Found(Owner),
     Refused(StatusCode),
 }

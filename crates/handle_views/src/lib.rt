@@ -19,8 +19,8 @@ ghost use Rattle.unit.specs.Views.{UnitRead};
 ghost use Rattle.handle_views.specs.Pairs.{PairsFit, PairIs};
 ghost use Rattle.handle_views.specs.Answers.{functionHandleAnswer, functionInstantiationAnswer, structInstantiationAnswer, fieldHandleAnswer, fieldInstantiationAnswer};
 
-// The two numbers of a record.
-pub enum PairAt {
+// The two numbers of a record, or that the index is past the table.
+enum PairAt {
     Pair(u16, u16),
     OutOfTable,
 }

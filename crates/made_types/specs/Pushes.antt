@@ -8,8 +8,7 @@ use native.Mathlib.Omega.{arith}
 use lib.ListN.{length, take, drop, length-take, length-drop}
 use borrow.Rule.Slice.PartMut.{putMid}
 use Rattle.status.specs.declared.StatusCode.the-variants.{«NO_ROOM», «OUT_OF_TABLE»}
-use Rattle.definitions.specs.Result.{ok}
-use Rattle.definitions.specs.SignatureToken.{SignatureToken, Signature, encode, le16, same}
+use Rattle.definitions.specs.SignatureToken.{SignatureToken, encode, le16, same}
 use Rattle.definitions.specs.Substitution.{materializeType, instantiate, referenceTo}
 use Rattle.definitions.specs.Machine.{push}
 use Rattle.definitions.specs.Places.{TypeAt, EndOfTypes}

@@ -4,7 +4,7 @@ use mathlib.Core.List.{List}
 use Prim.Native.Nat.{ℕ}
 use lib.ListN.{getD}
 use Rattle.definitions.specs.SignatureToken.{Signature}
-use Rattle.definitions.specs.Reading.{_>>=_, _>>_, byte, skip, many}
+use Rattle.definitions.specs.Reading.{_>>=_, byte, skip, many}
 use Rattle.definitions.specs.CompiledUnit.{Head, Module, Script}
 use Rattle.definitions.specs.Commands.{TypeCommand, InstructionForm, Commands, commandsOf, typeCommands, typeCommand, instructionForms, instructionForm}
 use Rattle.definitions.specs.Reader.{type, typeWithin, types, ability, byteUpTo, structTypeParameter, structHandle, pairOf, functionHandle, functionInstantiation, fieldInformation, structDefinition, structDefInstantiation, fieldHandle, fieldInstantiation, block, signatureOf, functionView}

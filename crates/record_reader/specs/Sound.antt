@@ -14,7 +14,7 @@ use Rattle.definitions.specs.CompiledUnit.{Head}
 use Rattle.definitions.specs.Reading.{Read, read, stop, Reader, next, _>>=_, _>>_, give, fail, here, byte, u16, many}
 use Rattle.definitions.specs.Commands.{TypeCommand, leaf, over, instantiation, commandsOf, typeCommands, typeCommand}
 use Rattle.definitions.specs.Reader.{restOfType, typeWithin}
-use Rattle.definitions.specs.Places.{At, TypeAt, TypesAt}
+use Rattle.definitions.specs.Places.{At, TypesAt}
 use Rattle.record_reader.specs.Apart.{parts, made, ByteRead, byte-read, U16Read, u16-read}
 use Rattle.record_reader.specs.BodyLaws.{same-types}
 
@@ -210,8 +210,5 @@ module _ (head : Head) (s : List ℕ) (bytes : (i : ℕ) → getD s i 0 < 256) w
 
 -- in the words of contracts
 module _ {s : List ℕ} {at levels e : ℕ} where
-  unfoldable pub type-at : {t : SignatureToken} → Stands s at levels t e → TypeAt s at
-  type-at {t} h = record { type = t; stands = h .stands }
-
   unfoldable pub types-at : {n : ℕ} {ts : Signature} → AllStand s at levels n ts e → TypesAt s at n
   types-at {n} {ts} h = record { types = arguments ts; counted = h .number; stands = h .stand }

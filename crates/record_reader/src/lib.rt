@@ -4,7 +4,7 @@
 use status::StatusCode;
 ghost use mathlib.Core.Path.{_≡_};
 ghost use mathlib.Core.List.{List};
-ghost use Prim.Native.Nat.{ℕ, _+_, _*_, _<_};
+ghost use Prim.Native.Nat.{_+_, _*_, _<_};
 ghost use lib.ListN.{length, getD};
 ghost use Rattle.definitions.specs.SignatureToken.{Signature};
 ghost use Rattle.definitions.specs.CompiledUnit.{Head};
@@ -21,7 +21,7 @@ pub enum ReadTo {
 }
 
 // What follows a type's command: nothing, a type, a u16, or a u16 with a list of types.
-pub enum TypeShape {
+enum TypeShape {
     Leaf,
     Over,
     Index,

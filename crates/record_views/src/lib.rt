@@ -1,10 +1,10 @@
 // What stands in a record or an instruction of a unit that was read, at a place that the reader's index has: read again, without a scan.
 use file_format::StructHandleIndex;
 ghost use mathlib.Core.Path.{_≡_};
-ghost use Prim.Native.Nat.{ℕ, _+_, _<_};
-ghost use lib.ListN.{length, getD};
+ghost use Prim.Native.Nat.{_+_, _<_};
+ghost use lib.ListN.{length};
 ghost use Rattle.record_reader.specs.Apart.{u16Of, numberOf};
-ghost use Rattle.record_views.specs.Records.{ListAt, ListIs, DefAt, InstructionHere, InstructionIs, DefIs};
+ghost use Rattle.record_views.specs.Records.{ListAt, DefAt, InstructionHere, InstructionIs, DefIs};
 
 // The types of a list: where the first stands in the unit, and how many there are.
 pub struct TypeList {

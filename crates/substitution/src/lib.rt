@@ -2,7 +2,6 @@
 // than any area, so it is never built to be measured or compared. As a writer it is substitution_writer, as a comparison
 // substitution_comparison. The arguments are a slice and the places where they stand in it.
 use signature_token::Token;
-ghost use mathlib.Core.Path.{_≡_};
 ghost use Prim.Native.Nat.{_+_, _≤_, _<_};
 ghost use Rattle.definitions.specs.Places.{TypeAt, TypesAt};
 ghost use Rattle.substitution.specs.Instantiate.{Arguments};

@@ -19,7 +19,7 @@ pub enum Comparison {
 }
 
 // Whether the bytes at a place are those of a type: where the type ends, and where the bytes end.
-pub enum Match {
+enum Match {
     Upto { next: usize, end: usize },
     No,
 }

@@ -6,7 +6,7 @@ ghost use Rattle.substitution.specs.Filling.{Room, Rooms, ArgumentRoom};
 ghost use Rattle.substitution_writer.specs.Write.{ArgumentWritten, WroteFrom, WroteAllFrom, WroteAt};
 
 // Where a type ends in ty, and where its bytes end that were written.
-pub struct Reached {
+struct Reached {
     next: usize,
     end: usize,
 }

@@ -10,7 +10,7 @@ use lib.ListN.{length, drop, getD, length-append}
 use lib.Seq.{drop-append-seam}
 use Rattle.definitions.specs.SignatureToken.{SignatureToken, SignatureTokens, Signature, Bool′, U8, U64, U128, Address, Signer, Vector, Struct, StructInstantiation, Reference, MutableReference, TypeParameter, []ᵗ, _∷ᵗ_, arguments, count, encode, encodeAll, depth, depthAll}
 use Rattle.definitions.specs.CompiledUnit.{Head, Module, Script}
-use Rattle.definitions.specs.Reading.{read, next, _>>=_, _>>_, give, here, byte, u16, many}
+use Rattle.definitions.specs.Reading.{read, next, _>>=_, give, here, byte, u16, many}
 use Rattle.definitions.specs.Commands.{TypeCommand, leaf, over, commandsOf, typeCommands, typeCommand}
 use Rattle.definitions.specs.Reader.{restOfType, typeWithin}
 use Rattle.definitions.specs.Places.{At}

@@ -8,9 +8,8 @@ use lib.ListN.{length}
 use borrow.Author.Tests.{le-leb, lt-leb}
 use Rattle.status.specs.declared.StatusCode.{StatusCode}
 use Rattle.status.specs.declared.StatusCode.the-variants.{«NO_ROOM»}
-use Rattle.definitions.specs.Result.{Result, ok, err}
 use Rattle.definitions.specs.SignatureToken.{SignatureToken, encode}
-use Rattle.definitions.specs.Machine.{Step, _>>=_, done, look, push, Stack, weight, Outcome, got, refused, run}
+use Rattle.definitions.specs.Machine.{Step, _>>=_, done, push, Stack, weight, Outcome, got, refused, run}
 use Rattle.type_stack.specs.Held.{Holds}
 use Rattle.type_stack.specs.Stepping.{StepsTo, Agrees, onGot, run-bind}
 use Rattle.type_stack.specs.declared.Stepped.{Stepped}
@@ -87,14 +86,6 @@ unfolding Agrees
 stuck-refused x = record { agrees = λ s h. rw (x .is s (record { is = h .weighs })) (refl, refl) }
 
 module _ {w : ℕ} where
-  pub weigh-look : {A : Type 0} {g : Result A} {v : A} (k : A → Step) → g ≡ ok v → (n : ℕ) → Leads (Weighs w) (run n (look g >>= k)) (Weighs w) (run n (k v))
-  unfolding _>>=_ look
-  weigh-look k e n = rw e leads-here
-
-  pub stuck-look : {A : Type 0} {n : ℕ} {g : Result A} {y : StatusCode} (k : A → Step) → g ≡ err y → Stuck n w (look g >>= k) y
-  unfolding _>>=_ look run
-  stuck-look k e = rw e (record { is = λ s h. refl })
-
   module _ (t : SignatureToken) (k : Unit {0} → Step) {n : ℕ} where
     pub weigh-push : w + (length (encode t) + 2) ≤ n → Leads (Weighs w) (run n (push t >>= k)) (Weighs (w + (length (encode t) + 2))) (run n (k tt))
     unfolding run push weight _>>=_

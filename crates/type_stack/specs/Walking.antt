@@ -12,7 +12,6 @@ use Rattle.status.specs.declared.Verdict.the-variants.{Accepted}
 use Rattle.status.specs.Verdict.{refusal}
 use Rattle.definitions.specs.Bytecode.{Bytecode}
 use Rattle.definitions.specs.CompiledUnit.{CompiledUnit, Block}
-use Rattle.definitions.specs.StackUsage.{instructionsOf}
 use Rattle.definitions.specs.Machine.{Stack, Outcome, got, refused, run}
 use Rattle.definitions.specs.TypeSafety.{verifyInstr}
 use Rattle.definitions.specs.Verify.{Walked, stands, stopped, onward, stepped, walkFrom, walkBlock, walk, walkVerdict, typeSafety}
@@ -93,10 +92,6 @@ module _ (u : CompiledUnit) (offset : ℕ) where
 -- ── the blocks ──
 
 module _ (u : CompiledUnit) (n : ℕ) where
-  pub block-walked : (k : Block) {a b : List ℕ} {w : ℕ} {r : Walk} → WalksTo (walkFrom u n (k .first) (instructionsOf u k)) a w b r → WalksTo (walkBlock u n k) a w b r
-  unfolding walkBlock
-  block-walked k x = record { ends = x .ends }
-
   module _ (k : Block) (ks : List Block) {a b : List ℕ} {w : ℕ} {q : Walk} (x : WalksTo (walkBlock u n k) a w b q) where
     -- the walk goes on behind a block, with the stack that it left
     pub block-next : {v : ℕ} → q ≡ Stands v → Leads (Holds a w) (walk u n (k ∷ ks)) (Holds b v) (walk u n ks)

@@ -1,5 +1,4 @@
 -- The index of a signature: its two bytes, then whether it is one of the unit's.
-use Prim.Native.Nat.{_-_}
 use native.Mathlib.Omega.{arith}
 use Rattle.record_reader.proofs.Records.{signature-short, signature-cut, signature-past, signature-next}
 use borrow.Author.Needs.{needs}
