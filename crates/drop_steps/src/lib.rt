@@ -1,5 +1,6 @@
 // The steps of type_safety.rs that ask whether an operand may be dropped: Pop, Eq and Neq.
 use file_format::Ability;
+use signature_token::BOOL;
 use status::StatusCode;
 use step_views::Checked;
 use type_stack::Stepped;
@@ -64,7 +65,7 @@ pub fn equality(area: &mut [u8], weight: usize, s: &[u8], index: &[u16], view: V
         Checked::Refused(status) => Stepped::Refused(status),
         Checked::Passed => {
             if type_tests::same_type(area, start, len, area, below) {
-                type_pushes::push_leaf(area, below, 1)
+                type_pushes::push_leaf(area, below, BOOL)
             } else {
                 Stepped::Refused(StatusCode::EQUALITY_OP_TYPE_MISMATCH_ERROR)
             }

@@ -5,6 +5,7 @@ use file_format::StructDefInstantiationIndex;
 use file_format::StructDefinitionIndex;
 use handle_views::StructInstantiationResult;
 use record_views::TypeList;
+use signature_token::ADDRESS;
 use status::StatusCode;
 use step_views::Checked;
 use type_stack::Stepped;
@@ -17,9 +18,6 @@ ghost use Rattle.record_views.specs.Records.{TypesIn};
 ghost use Rattle.type_stack.specs.Held.{Stacked};
 ghost use Rattle.type_stack.specs.Stepping.{StepsTo};
 ghost use Rattle.unit.specs.Views.{UnitRead};
-
-// The command of address.
-pub const ADDRESS: u8 = 5;
 
 // `borrow_global`: the address is popped and tested before the definition is looked up.
 pub fn borrow_global(

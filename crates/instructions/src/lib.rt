@@ -1,5 +1,5 @@
 // `verify_instr` of type_safety.rs: one decision over the opcode picks the step. An instruction that names a table takes its operand as an
-// index of that table here, and nowhere else.
+// index of that table here; the effects that are looked up (crate instruction_effect) do so too.
 use file_format::ConstantPoolIndex;
 use file_format::FieldHandleIndex;
 use file_format::FieldInstantiationIndex;
@@ -11,11 +11,14 @@ use file_format::StructDefInstantiationIndex;
 use file_format::StructDefinitionIndex;
 use record_views::Instruction;
 use record_views::TypeList;
+use signature_token::BOOL;
+use signature_token::U8;
+use signature_token::U64;
 use status::StatusCode;
 use type_stack::Stepped;
 use unit::View;
 ghost use mathlib.Core.Path.{_≡_};
-ghost use Prim.Native.Nat.{_+_, _≤_, _<_};
+ghost use Prim.Native.Nat.{_+_, _<_};
 ghost use Rattle.definitions.specs.Reader.{compiledUnit};
 ghost use Rattle.locals.specs.Locals.{LocalPlaces};
 ghost use Rattle.type_stack.specs.Held.{Stacked};
@@ -27,7 +30,7 @@ fn integer_type(k: u8) -> u8
     requires { ⌜ k < 3 ⌝ }
     ensures { λ r. ⌜ r ≡ 2 + k ⌝ }
 {
-    2 + k
+    U8 + k
 }
 
 // MutBorrowLoc, ImmBorrowLoc.
@@ -80,8 +83,8 @@ fn call_instr(
     let opcode = instruction.opcode;
     let x = instruction.operand;
     match opcode {
-        17 => call_steps::function_call(area, weight, s, index, view, FunctionHandleIndex(x)),
-        _ => {
+        17 => call_steps::function_call(area, weight, s, index, view, FunctionHandleIndex(x)), // Call
+        _ => { // CallGeneric
             let inst = FunctionInstantiationIndex(x);
             call_steps::function_call_generic(area, weight, s, index, view, inst)
         }
@@ -106,25 +109,25 @@ fn struct_instr(
     let def = StructDefinitionIndex(instruction.operand);
     let inst = StructDefInstantiationIndex(instruction.operand);
     match opcode {
-        19 => struct_steps::pack(
+        19 => struct_steps::pack( // Pack
             area,
             weight,
             s,
             step_views::plain_struct(s, index, view, def),
         ),
-        20 => struct_steps::pack(
+        20 => struct_steps::pack( // PackGeneric
             area,
             weight,
             s,
             step_views::generic_struct(s, index, view, inst),
         ),
-        21 => struct_steps::unpack(
+        21 => struct_steps::unpack( // Unpack
             area,
             weight,
             s,
             step_views::plain_struct(s, index, view, def),
         ),
-        _ => {
+        _ => { // UnpackGeneric
             let found = step_views::generic_struct(s, index, view, inst);
             struct_steps::unpack(area, weight, s, found)
         }
@@ -150,10 +153,10 @@ fn field_instr(
     let inst = FieldInstantiationIndex(instruction.operand);
     let none = TypeList { at: 0, count: 0 };
     match opcode {
-        28 => field_steps::borrow_field(area, weight, s, index, view, true, handle, none),
-        29 => field_steps::borrow_field_generic(area, weight, s, index, view, true, inst),
-        30 => field_steps::borrow_field(area, weight, s, index, view, false, handle, none),
-        _ => field_steps::borrow_field_generic(area, weight, s, index, view, false, inst),
+        28 => field_steps::borrow_field(area, weight, s, index, view, true, handle, none), // MutBorrowField
+        29 => field_steps::borrow_field_generic(area, weight, s, index, view, true, inst), // MutBorrowFieldGeneric
+        30 => field_steps::borrow_field(area, weight, s, index, view, false, handle, none), // ImmBorrowField
+        _ => field_steps::borrow_field_generic(area, weight, s, index, view, false, inst), // ImmBorrowFieldGeneric
     }
 }
 
@@ -176,10 +179,10 @@ fn global_instr(
     let inst = StructDefInstantiationIndex(instruction.operand);
     let none = TypeList { at: 0, count: 0 };
     match opcode {
-        32 => global_steps::borrow_global(area, weight, s, index, view, true, def, none),
-        33 => global_steps::borrow_global_generic(area, weight, s, index, view, true, inst),
-        34 => global_steps::borrow_global(area, weight, s, index, view, false, def, none),
-        _ => global_steps::borrow_global_generic(area, weight, s, index, view, false, inst),
+        32 => global_steps::borrow_global(area, weight, s, index, view, true, def, none), // MutBorrowGlobal
+        33 => global_steps::borrow_global_generic(area, weight, s, index, view, true, inst), // MutBorrowGlobalGeneric
+        34 => global_steps::borrow_global(area, weight, s, index, view, false, def, none), // ImmBorrowGlobal
+        _ => global_steps::borrow_global_generic(area, weight, s, index, view, false, inst), // ImmBorrowGlobalGeneric
     }
 }
 
@@ -201,27 +204,27 @@ fn resource_instr(
     let def = StructDefinitionIndex(instruction.operand);
     let inst = StructDefInstantiationIndex(instruction.operand);
     match opcode {
-        55 => {
+        55 => { // Exists
             let found = step_views::plain_struct(s, index, view, def);
             resource_steps::exists(area, weight, s, index, view, found)
         }
-        56 => {
+        56 => { // ExistsGeneric
             let found = step_views::generic_struct(s, index, view, inst);
             resource_steps::exists(area, weight, s, index, view, found)
         }
-        57 => {
+        57 => { // MoveFrom
             let found = step_views::plain_struct(s, index, view, def);
             resource_steps::move_from(area, weight, s, index, view, found)
         }
-        58 => {
+        58 => { // MoveFromGeneric
             let found = step_views::generic_struct(s, index, view, inst);
             resource_steps::move_from(area, weight, s, index, view, found)
         }
-        59 => {
+        59 => { // MoveTo
             let found = step_views::plain_struct(s, index, view, def);
             resource_steps::move_to(area, weight, s, index, view, found)
         }
-        _ => {
+        _ => { // MoveToGeneric
             let found = step_views::generic_struct(s, index, view, inst);
             resource_steps::move_to(area, weight, s, index, view, found)
         }
@@ -246,14 +249,14 @@ fn vector_instr(
     let idx = SignatureIndex(instruction.operand);
     let n = instruction.count;
     match opcode {
-        63 => vector_pack_steps::vec_pack(area, weight, s, index, view, idx, n),
-        64 => vector_steps::vec_len(area, weight, s, index, view, idx),
-        65 => vector_borrow_steps::borrow_vector_element(area, weight, s, index, view, idx, false),
-        66 => vector_borrow_steps::borrow_vector_element(area, weight, s, index, view, idx, true),
-        67 => vector_steps::vec_push_back(area, weight, s, index, view, idx),
-        68 => vector_steps::vec_pop_back(area, weight, s, index, view, idx),
-        69 => vector_pack_steps::vec_unpack(area, weight, s, index, view, idx, n),
-        _ => vector_steps::vec_swap(area, weight, s, index, view, idx),
+        63 => vector_pack_steps::vec_pack(area, weight, s, index, view, idx, n), // VecPack
+        64 => vector_steps::vec_len(area, weight, s, index, view, idx), // VecLen
+        65 => vector_borrow_steps::borrow_vector_element(area, weight, s, index, view, idx, false), // VecImmBorrow
+        66 => vector_borrow_steps::borrow_vector_element(area, weight, s, index, view, idx, true), // VecMutBorrow
+        67 => vector_steps::vec_push_back(area, weight, s, index, view, idx), // VecPushBack
+        68 => vector_steps::vec_pop_back(area, weight, s, index, view, idx), // VecPopBack
+        69 => vector_pack_steps::vec_unpack(area, weight, s, index, view, idx, n), // VecUnpack
+        _ => vector_steps::vec_swap(area, weight, s, index, view, idx), // VecSwap
     }
 }
 
@@ -278,34 +281,34 @@ pub fn verify_instr(
     let opcode = it.opcode;
     let local = LocalIndex(it.local);
     match opcode {
-        0 => drop_steps::pop_step(area, weight, s, index, view),
-        1 => list_steps::ret_step(area, weight, s, index, view),
-        2..=3 => operand_steps::pop_leaf(area, weight, 1, StatusCode::BR_TYPE_MISMATCH_ERROR),
+        0 => drop_steps::pop_step(area, weight, s, index, view), // Pop
+        1 => list_steps::ret_step(area, weight, s, index, view), // Ret
+        2..=3 => operand_steps::pop_leaf(area, weight, BOOL, StatusCode::BR_TYPE_MISMATCH_ERROR), // BrTrue, BrFalse
         4 => Stepped::Next(weight), // Branch
-        5..=7 => type_pushes::push_leaf(area, weight, integer_type(opcode - 5)),
-        8..=10 => operand_steps::cast(area, weight, integer_type(opcode - 8)),
-        11 => { local_steps::ld_const(area, weight, s, index, view, ConstantPoolIndex(it.operand)) }
-        12..=13 => type_pushes::push_leaf(area, weight, 1),
-        14 => local_steps::copy_loc(area, weight, s, index, view, parameters, locals, local),
-        15 => local_steps::move_loc(area, weight, s, index, view, parameters, locals, local),
-        16 => local_steps::st_loc(area, weight, s, index, view, parameters, locals, local),
-        17..=18 => call_instr(area, weight, s, index, view, it),
-        19..=22 => struct_instr(area, weight, s, index, view, it),
-        23 => reference_steps::read_ref(area, weight, s, index, view),
-        24 => reference_steps::write_ref(area, weight, s, index, view),
-        25 => operand_steps::freeze_ref(area, weight),
-        26..=27 => borrow_loc_instr(area, weight, s, index, view, parameters, locals, it),
-        28..=31 => field_instr(area, weight, s, index, view, it),
-        32..=35 => global_instr(area, weight, s, index, view, it),
-        36..=43 => pair_steps::arithmetic(area, weight),
-        44..=45 => pair_steps::logical(area, weight),
-        46 => operand_steps::negation(area, weight),
-        47..=48 => drop_steps::equality(area, weight, s, index, view),
-        49..=52 => pair_steps::comparison(area, weight),
-        53 => operand_steps::pop_leaf(area, weight, 3, StatusCode::ABORT_TYPE_MISMATCH_ERROR),
+        5..=7 => type_pushes::push_leaf(area, weight, integer_type(opcode - 5)), // LdU8, LdU64, LdU128
+        8..=10 => operand_steps::cast(area, weight, integer_type(opcode - 8)), // CastU8, CastU64, CastU128
+        11 => { local_steps::ld_const(area, weight, s, index, view, ConstantPoolIndex(it.operand)) } // LdConst
+        12..=13 => type_pushes::push_leaf(area, weight, BOOL), // LdTrue, LdFalse
+        14 => local_steps::copy_loc(area, weight, s, index, view, parameters, locals, local), // CopyLoc
+        15 => local_steps::move_loc(area, weight, s, index, view, parameters, locals, local), // MoveLoc
+        16 => local_steps::st_loc(area, weight, s, index, view, parameters, locals, local), // StLoc
+        17..=18 => call_instr(area, weight, s, index, view, it), // Call, CallGeneric
+        19..=22 => struct_instr(area, weight, s, index, view, it), // Pack to UnpackGeneric
+        23 => reference_steps::read_ref(area, weight, s, index, view), // ReadRef
+        24 => reference_steps::write_ref(area, weight, s, index, view), // WriteRef
+        25 => operand_steps::freeze_ref(area, weight), // FreezeRef
+        26..=27 => borrow_loc_instr(area, weight, s, index, view, parameters, locals, it), // MutBorrowLoc, ImmBorrowLoc
+        28..=31 => field_instr(area, weight, s, index, view, it), // MutBorrowField to ImmBorrowFieldGeneric
+        32..=35 => global_instr(area, weight, s, index, view, it), // MutBorrowGlobal to ImmBorrowGlobalGeneric
+        36..=43 => pair_steps::arithmetic(area, weight), // Add to Xor
+        44..=45 => pair_steps::logical(area, weight), // Or, And
+        46 => operand_steps::negation(area, weight), // Not
+        47..=48 => drop_steps::equality(area, weight, s, index, view), // Eq, Neq
+        49..=52 => pair_steps::comparison(area, weight), // Lt, Gt, Le, Ge
+        53 => operand_steps::pop_leaf(area, weight, U64, StatusCode::ABORT_TYPE_MISMATCH_ERROR), // Abort
         54 => Stepped::Next(weight), // Nop
-        55..=60 => resource_instr(area, weight, s, index, view, it),
-        61..=62 => pair_steps::shift(area, weight),
-        _ => vector_instr(area, weight, s, index, view, it),
+        55..=60 => resource_instr(area, weight, s, index, view, it), // Exists to MoveToGeneric
+        61..=62 => pair_steps::shift(area, weight), // Shl, Shr
+        _ => vector_instr(area, weight, s, index, view, it), // VecPack to VecSwap
     }
 }

@@ -1,11 +1,11 @@
 // The steps of type_safety.rs that look nothing up in the unit and pop one operand: casts, Not, FreezeRef, and the operand that must be one
 // leaf type. A step that only reads takes the area as `&[u8]`: what it pushes stands there already. Steps with two operands are pair_steps.
+use signature_token::BOOL;
+use signature_token::REFERENCE;
 use status::StatusCode;
 use type_stack::Stepped;
 use type_stack::Top;
 use type_tests::Referent;
-ghost use mathlib.Core.Path.{_≡_};
-ghost use Prim.Native.Nat.{ℕ};
 ghost use Rattle.definitions.specs.TypeSafety as step;
 ghost use Rattle.type_stack.specs.Held.{Stacked};
 ghost use Rattle.type_stack.specs.Stepping.{StepsTo};
@@ -50,7 +50,7 @@ pub fn negation(area: &[u8], weight: usize) -> Stepped
     let Top::Entry { start, len: _ } = top else {
         return Stepped::Refused(StatusCode::EMPTY_STACK);
     };
-    if type_tests::is_leaf(area, start, 1) {
+    if type_tests::is_leaf(area, start, BOOL) {
         return Stepped::Next(weight); // a bool is pushed where the operand stands
     }
     Stepped::Refused(StatusCode::BOOLEAN_OP_TYPE_MISMATCH_ERROR)
@@ -69,5 +69,5 @@ pub fn freeze_ref(area: &mut [u8], weight: usize) -> Stepped
     let Referent::MutableReference(_) = operand else {
         return Stepped::Refused(StatusCode::FREEZEREF_TYPE_MISMATCH_ERROR);
     };
-    type_pushes::push_retagged(area, start, 0x0A, start + len)
+    type_pushes::push_retagged(area, start, REFERENCE, start + len)
 }

@@ -1,5 +1,7 @@
 // The steps of type_safety.rs that look nothing up in the unit and pop two operands: arithmetic, shifts, Or and And, comparisons. A step that
 // only reads takes the area as `&[u8]`: what it pushes stands there already.
+use signature_token::BOOL;
+use signature_token::U8;
 use status::StatusCode;
 use type_stack::Stepped;
 use type_stack::TopTwo;
@@ -46,7 +48,7 @@ pub fn shift(area: &[u8], weight: usize) -> Stepped
         return Stepped::Refused(StatusCode::EMPTY_STACK);
     };
     if type_tests::is_integer(area, below) {
-        if type_tests::is_leaf(area, start, 2) {
+        if type_tests::is_leaf(area, start, U8) {
             return Stepped::Next(start); // operand2 is pushed where it stands
         }
     }
@@ -68,8 +70,8 @@ pub fn logical(area: &[u8], weight: usize) -> Stepped
     else {
         return Stepped::Refused(StatusCode::EMPTY_STACK);
     };
-    if type_tests::is_leaf(area, start, 1) {
-        if type_tests::is_leaf(area, below, 1) {
+    if type_tests::is_leaf(area, start, BOOL) {
+        if type_tests::is_leaf(area, below, BOOL) {
             return Stepped::Next(start); // a bool is pushed where operand2 stands
         }
     }
@@ -93,7 +95,7 @@ pub fn comparison(area: &mut [u8], weight: usize) -> Stepped
     };
     if type_tests::is_integer(area, start) {
         if type_tests::same_type(area, start, len, area, below) {
-            return type_pushes::push_leaf(area, below, 1);
+            return type_pushes::push_leaf(area, below, BOOL);
         }
     }
     Stepped::Refused(StatusCode::INTEGER_OP_TYPE_MISMATCH_ERROR)

@@ -1,6 +1,8 @@
 // The steps of type_safety.rs that ask for a struct in global storage or change it: exists, move_from and move_to. Each tests key before it pops.
 use file_format::Ability;
-use global_steps::ADDRESS;
+use signature_token::ADDRESS;
+use signature_token::BOOL;
+use signature_token::SIGNER;
 use status::StatusCode;
 use step_views::Checked;
 use step_views::StructWithResult;
@@ -64,7 +66,7 @@ pub fn exists(
         StructWithResult::Found(_) => {
             match operand_steps::pop_leaf(area, weight, ADDRESS, refusal) {
                 Stepped::Refused(status) => Stepped::Refused(status),
-                Stepped::Next(below) => type_pushes::push_leaf(area, below, 1),
+                Stepped::Next(below) => type_pushes::push_leaf(area, below, BOOL),
             }
         }
     }
@@ -106,7 +108,7 @@ fn is_signer_reference(area: &[u8], at: usize) -> bool
     ensures { λ r. ⌜ SignerReferenceAt (now (area .entry)) at r ⌝ }
 {
     match type_tests::referent_at(area, at) {
-        Referent::Reference(inner) => type_tests::is_leaf(area, inner, 6),
+        Referent::Reference(inner) => type_tests::is_leaf(area, inner, SIGNER),
         Referent::MutableReference(_) => false,
         Referent::Value => false,
     }

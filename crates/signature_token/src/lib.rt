@@ -1,13 +1,29 @@
-// A type taken apart at its first command, and where types end. `token_at` is the one place that knows the commands of types.
+// A type taken apart at its first command, and where types end. `token_at` is the one place in the passes that tells what a type's command
+// opens; the reader, which meets bytes that open none, has its own.
 use file_format::StructHandleIndex;
 ghost use mathlib.Core.Path.{_≡_};
-ghost use Prim.Native.Nat.{ℕ, _+_, _*_, _<_};
+ghost use Prim.Native.Nat.{_+_, _*_, _<_};
 ghost use lib.ListN.{length, getD};
 ghost use Rattle.definitions.specs.Places.{TypeAt, TypesAt, EndOfType, EndOfTypes};
 ghost use Rattle.signature_token.specs.Token.{shapeOf, TokenAt};
 
+// Commands of types, as document 01's table of them has them: those that steps name.
+pub const BOOL: u8 = 0x01;
+
+pub const U8: u8 = 0x02;
+
+pub const U64: u8 = 0x03;
+
+pub const ADDRESS: u8 = 0x05;
+
+pub const SIGNER: u8 = 0x06;
+
+pub const VECTOR: u8 = 0x07;
+
+pub const REFERENCE: u8 = 0x0A;
+
 // What a type's command opens.
-pub enum Shape {
+enum Shape {
     Leaf,
     Vector,
     Struct,

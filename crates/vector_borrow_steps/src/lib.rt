@@ -1,5 +1,6 @@
 // VecImmBorrow and VecMutBorrow of type_safety.rs: the element type is looked up before the pops.
 use file_format::SignatureIndex;
+use signature_token::U64;
 use status::StatusCode;
 use type_stack::Stepped;
 use type_stack::TopTwo;
@@ -38,7 +39,7 @@ fn borrow_declared(
     else {
         return Stepped::Refused(StatusCode::EMPTY_STACK);
     };
-    if type_tests::is_leaf(area, start, 3) {
+    if type_tests::is_leaf(area, start, U64) {
         if vector_elements::element_is(area, below, below_len, s, declared, mut_ref_only) {
             let command = type_pushes::reference_command(mut_ref_only);
             let end = signature_token::end_of_type(s, declared);

@@ -1,6 +1,7 @@
 // VecPack and VecUnpack of type_safety.rs: as many pops or pushes as the instruction says. VecPack looks the element type up before its pops,
 // VecUnpack after its pop.
 use file_format::SignatureIndex;
+use signature_token::VECTOR;
 use status::StatusCode;
 use type_stack::Stepped;
 use type_stack::Top;
@@ -81,7 +82,7 @@ pub fn vec_pack(
             Stepped::Refused(status) => Stepped::Refused(status),
             Stepped::Next(below) => {
                 let end = signature_token::end_of_type(s, element);
-                copied_pushes::push_wrapped(area, below, 0x07, s, element, end)
+                copied_pushes::push_wrapped(area, below, VECTOR, s, element, end)
             }
         },
     }

@@ -1,11 +1,11 @@
 // The steps of type_safety.rs on a vector behind a reference: VecLen, VecPushBack, VecPopBack and VecSwap. The element type that such an instruction
 // names is looked up where the Rust looks it up: after the pops, in VecSwap after its indexes too. A step that only reads takes the area as `&[u8]`.
 use file_format::SignatureIndex;
+use signature_token::U64;
 use status::StatusCode;
 use type_stack::Stepped;
 use type_stack::Top;
 use type_stack::TopTwo;
-use type_tests::Referent;
 use unit::View;
 use unit_views::TypeResult;
 ghost use Rattle.definitions.specs.TypeSafety as step;
@@ -61,7 +61,7 @@ pub fn vec_len(
     };
     match named_element(area, start, len, s, index, view, idx, false) {
         TypeResult::Refused(status) => Stepped::Refused(status),
-        TypeResult::Found(_) => type_pushes::push_leaf(area, start, 3),
+        TypeResult::Found(_) => type_pushes::push_leaf(area, start, U64),
     }
 }
 
@@ -154,8 +154,8 @@ pub fn vec_swap(
     let Top::Entry { start: vector, len } = third else {
         return Stepped::Refused(StatusCode::EMPTY_STACK);
     };
-    if type_tests::is_leaf(area, below, 3) {
-        if type_tests::is_leaf(area, start, 3) {
+    if type_tests::is_leaf(area, below, U64) {
+        if type_tests::is_leaf(area, start, U64) {
             return match named_element(area, vector, len, s, index, view, idx, true) {
                 TypeResult::Refused(status) => Stepped::Refused(status),
                 TypeResult::Found(_) => Stepped::Next(vector),
