@@ -1,3 +1,4 @@
+-- The modules of this crate's specs.
 pub mod Tables
 pub mod Handles
 pub mod Abilities

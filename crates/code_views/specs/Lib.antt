@@ -1,3 +1,4 @@
+-- The modules of this crate's specs.
 pub mod Answers
 pub mod Lookups
 pub mod Along

@@ -1,3 +1,4 @@
+-- The modules of this crate's specs.
 pub mod Result
 pub mod AbilitySet
 pub mod SignatureToken

@@ -33,7 +33,7 @@ popExpecting t status = do
   operand ← pop
   check (same operand t) status
 
--- ── steps that look nothing up in the unit ──
+-- ── steps that are given what was looked up, or look nothing up ──
 
 -- `pack`
 unfoldable pub pack : Result StructWith → Step

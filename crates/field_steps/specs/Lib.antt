@@ -1,3 +1,4 @@
+-- The modules of this crate's specs.
 pub mod Borrows
 pub mod Operand
 pub mod Owners

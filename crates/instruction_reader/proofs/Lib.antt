@@ -1,3 +1,4 @@
+-- The modules of this crate's proofs.
 pub mod Table
 pub mod Widths
 pub mod Instructions

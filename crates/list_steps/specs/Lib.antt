@@ -1,3 +1,4 @@
+-- The modules of this crate's specs.
 pub mod Forms
 pub mod Made
 pub mod Pops

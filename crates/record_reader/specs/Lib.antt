@@ -1,3 +1,4 @@
+-- The modules of this crate's specs.
 pub mod ReadTo
 pub mod Alike
 pub mod Bodies

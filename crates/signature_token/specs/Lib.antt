@@ -1,3 +1,4 @@
+-- The modules of this crate's specs.
 pub mod Token
 pub mod TokenLaws
 pub mod Lists

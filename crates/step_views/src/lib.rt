@@ -89,7 +89,7 @@ pub fn generic_struct(
     }
 }
 
-// Asks a type's abilities for one. Where it is lacking, the status given is the refusal.
+// Whether a type's abilities have the one asked; where not, the status given is the refusal.
 fn check_set(abilities: Abilities, ability: Ability, status: StatusCode) -> Checked
     ensures { λ r. ⌜ r ≡ checkedBy ability status (resultOf abilities) ⌝ }
 {

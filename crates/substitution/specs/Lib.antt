@@ -1,3 +1,4 @@
+-- The modules of this crate's specs.
 pub mod Instantiate
 pub mod Filling
 pub mod Size

@@ -1,3 +1,4 @@
+-- The modules of this crate's specs.
 pub mod AtLaws
 pub mod Bytes
 pub mod All

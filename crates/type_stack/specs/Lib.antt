@@ -1,3 +1,4 @@
+-- The modules of this crate's specs.
 pub mod Spliced
 pub mod Held
 pub mod Tops

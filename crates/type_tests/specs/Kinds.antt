@@ -1,4 +1,4 @@
--- What a step asks of an operand's kind: whether it is an integer, and what it refers to.
+-- What a step asks of an operand's kind: whether it is an integer or a given leaf, and what it refers to.
 use mathlib.Core.Path.{_≡_, refl, sym, ap, _∙_}
 use mathlib.Core.Bool.{Bool, false, _&&_}
 use mathlib.Core.List.{List, [], _∷_}

@@ -13,7 +13,8 @@ compare survey N SEED | survey sweep the Rust alone: what the cases meet
 compare record N SEED FOLDER         a sample of N of the Rust's answers, for replay
 compare faults N SEED                how many of the faults, put in one at a time, are noticed within N units
 compare show SEED NUMBER             one generated case: the unit, its tables and the four verdicts
-compare judge AREA HEX               the four verdicts of the Rust on a unit"
+compare judge AREA HEX               the four verdicts of the Rust on a unit
+compare bench [MILLISECONDS]         the time of the port and of the Rust, by families of units, each measured so long (300)"
     );
     ExitCode::from(2)
 }

@@ -1,4 +1,4 @@
-//! READINGS 1 to 9, which order reading refuses in.
+//! The readings of document 01 (docs/DECISIONS.md) about reading: which order it refuses in.
 mod common;
 use common::says_of_bytes;
 use compare::case::Call;

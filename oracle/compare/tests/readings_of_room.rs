@@ -1,4 +1,5 @@
-//! READINGS 22 to 25: what is weighed, and how 12 stands to 11 and 10. The Rust has no area; its own stack is weighed.
+//! The readings of document 01 (docs/DECISIONS.md) about room: what is weighed, and how 12 stands to 11 and 10. The Rust has no area;
+//! its own stack is weighed.
 mod common;
 use common::says_with;
 use compare::case::Call;

@@ -1,4 +1,4 @@
-//! READINGS 10 to 13, as the Rust answers them.
+//! The readings of document 01 (docs/DECISIONS.md) about stack usage, as the Rust answers them.
 mod common;
 use common::usage_of;
 use compare::rows::{bare, indexed, plain, with_locals};

@@ -1,4 +1,4 @@
-//! READINGS 14 to 21 and 26 to 30, as the Rust answers them: the order of refusals within an instruction.
+//! The readings of document 01 (docs/DECISIONS.md) about types, as the Rust answers them: the order of refusals within an instruction.
 mod common;
 use common::{says, types_of};
 use compare::case::Call;

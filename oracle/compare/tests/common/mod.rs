@@ -1,4 +1,4 @@
-//! What the tests of READINGS share: a unit's verdict as it is printed, and short ways to write code.
+//! What the tests of the readings of document 01 (docs/DECISIONS.md) share: a unit's verdict as it is printed, and short ways to write code.
 // Each test file is a program of its own and uses part of this.
 #![allow(dead_code)]
 use compare::case::{Call, Case};
