@@ -1,2 +1,3 @@
+-- The modules of this crate's proofs.
 pub mod Table
 pub mod Looked

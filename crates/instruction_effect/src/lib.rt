@@ -37,7 +37,7 @@ pub enum EffectResult {
 }
 
 // How many fields a struct has, or the status of a refusal.
-pub enum FieldCount {
+enum FieldCount {
     Found(u64),
     Refused(StatusCode),
 }

@@ -16,13 +16,13 @@ ghost use Rattle.code_views.specs.Answers.{blockOf};
 ghost use Rattle.stack_usage_verifier.specs.Answers.{heightResult, blockResult};
 
 // The height of the stack after an instruction, or the status of a refusal.
-pub enum Height {
+enum Height {
     At(u64),
     Refused(StatusCode),
 }
 
 // How a block ends: the Rust's `PartialVMResult<()>`.
-pub enum BlockResult {
+enum BlockResult {
     Accepted,
     Refused(StatusCode),
 }

@@ -1,3 +1,4 @@
+-- The modules of this crate's proofs.
 pub mod Known
 pub mod TableLoop
 pub mod Filling

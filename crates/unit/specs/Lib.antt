@@ -1,3 +1,4 @@
+-- The modules of this crate's specs.
 pub mod Outline
 pub mod Filled
 pub mod Views
