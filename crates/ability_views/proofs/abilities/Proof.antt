@@ -15,5 +15,6 @@ abilities-spec =
     (λ c. c .before .ability-context .ensures (c .before .before .before .before .before .pre .1) .ordered)
     (λ c. c .before .ability-context .ensures (c .before .before .before .before .before .pre .1) .ordered)
     (λ c. c .before .ability-context .ensures (c .before .before .before .before .before .pre .1) .within)
-    (λ c κs. (c .before .before .before .before .before .before .pre .0, context-handles (c .before .before .ability-context .ensures (c .before .before .before .before .before .before .pre .1))))
+    (λ c κs. let start = c .before .before .before .before .before .before in
+    (start .pre .0, context-handles (c .before .before .ability-context .ensures (start .pre .1))))
     (λ c. λ p q. abilities-here (c .before .before .before .ability-context .ensures p) q (c .abilities .ensures)))

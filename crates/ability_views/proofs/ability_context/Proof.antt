@@ -15,5 +15,6 @@ ability-context-spec =
     (λ c. omega (arith, context-room (c .before .before .before .before .before .pre), unit-short (c .before .before .before .before .before .pre)))
     (λ c. omega (arith, context-room (c .before .before .before .before .before .before .pre)))
     (λ c κs. search needs)
-    (λ c. omega (arith, context-room (c .before .before .before .before .before .before .before .pre), unit-short (c .before .before .before .before .before .before .before .pre), c .wide .ensures .1))
+    (λ c. let start = c .before .before .before .before .before .before .before in
+    omega (arith, context-room (start .pre), unit-short (start .pre), c .wide .ensures .1))
     (λ c. λ p. context-here p (c .before .before .before .widest .ensures .0) (c .wide .ensures .0)))

@@ -17,5 +17,6 @@ struct-abilities-spec =
     (λ c. c .before .ability-context .ensures (c .before .before .before .before .pre .0) .ordered)
     (λ c. c .before .ability-context .ensures (c .before .before .before .before .pre .0) .ordered)
     (λ c. c .before .ability-context .ensures (c .before .before .before .before .pre .0) .within)
-    (λ c κs. (types-at (c .before .before .before .before .before .pre .1), (context-handles (c .before .before .ability-context .ensures (c .before .before .before .before .before .pre .0)), omega (arith, c .before .before .before .before .before .pre .1 .are .small))))
+    (λ c κs. let start = c .before .before .before .before .before in
+    (types-at (start .pre .1), (context-handles (c .before .before .ability-context .ensures (start .pre .0)), omega (arith, start .pre .1 .are .small))))
     (λ c. λ p q. struct-abilities-here (c .before .before .before .ability-context .ensures p) q (c .materialized-abilities .ensures)))

@@ -14,9 +14,13 @@ struct-handle-at-spec =
     (λ c κs. search needs)
     (λ c κs. (table-fits (structHandles-in (c .before .before .before .before .before .pre)), omega (arith, c .widest .ensures .0)))
     (λ c. search needs)
-    (λ c. omega (arith, handle-within (c .before .before .before .before .before .before .before .pre) (omega (arith, c .before .before .widest .ensures .0)) (c .before .place .ensures .0)))
+    (λ c. let start = c .before .before .before .before .before .before .before in
+    omega (arith, handle-within (start .pre) (omega (arith, c .before .before .widest .ensures .0)) (c .before .place .ensures .0)))
     (λ c. search needs)
     (λ c. search needs)
-    (λ c. omega (arith, handle-within (c .before .before .before .before .before .before .before .before .pre) (omega (arith, c .before .before .before .widest .ensures .0)) (c .before .before .place .ensures .0)))
+    (λ c. let start = c .before .before .before .before .before .before .before .before in
+    omega (arith, handle-within (start .pre) (omega (arith, c .before .before .before .widest .ensures .0)) (c .before .before .place .ensures .0)))
     (λ c κs. search needs)
-    (λ c. λ p. rw (c .before .before .before .before .widest .ensures .0) at (handle-here p (omega (arith, c .before .before .before .before .widest .ensures .0)) (c .before .before .before .place .ensures .0) (c .wide .ensures .0))))
+    (λ c. let widest = c .before .before .before .before in
+    λ p. rw (widest .widest .ensures .0) at
+    (handle-here p (omega (arith, widest .widest .ensures .0)) (c .before .before .before .place .ensures .0) (c .wide .ensures .0))))

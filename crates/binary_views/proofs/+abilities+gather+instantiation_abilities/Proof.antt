@@ -6,7 +6,9 @@ use borrow.Author.Needs.{needs}
 use lib.Seq.{length-take-le}
 use Rattle.signature_token.specs.TokenLaws.{inner-type, inner-types}
 use Rattle.signature_token.specs.Ends.{typeMeasure, listMeasure, inner-falls}
-use Rattle.binary_views.specs.Abilities.{structMeasure, handle-found, leaf-abilities, vector-abilities, reference-abilities, mutable-reference-abilities, struct-abilities, parameter-abilities, arguments-fit, instantiation-falls, instantiation-type, instantiation-past, argument-refused, instantiation-abilities}
+use Rattle.binary_views.specs.Abilities.{structMeasure, handle-found, leaf-abilities, vector-abilities, reference-abilities, mutable-reference-abilities}
+use Rattle.binary_views.specs.Abilities.{struct-abilities, parameter-abilities, arguments-fit, instantiation-falls, instantiation-type, instantiation-past}
+use Rattle.binary_views.specs.Abilities.{argument-refused, instantiation-abilities}
 use Rattle.binary_views.specs.Gathering.{Gathering, gathering-start, gathering-type, gathering-next, gathering-refused, gathering-done}
 use Prim.Native.Nat.{ℕ, _<_, _+_, _-_}
 use borrow.Fn.Kinds.{In}
@@ -112,22 +114,30 @@ pub +abilities+gather+instantiation-abilities-spec : {M : Type 1} → statement 
     (λ c. search needs)
     (λ c κs. c .before .before .before .before .before .before .before .before .pre .1 .1)
     (λ c. search needs)
-    (λ c κs.
-    let p = c .before .before .before .before .before .before .before .before .pre .1 .0 in
+    (λ c κs. let known = c .before .before .before .before .before .before .before in
+    let start = known .before in
+    let p = start .pre .1 .0 in
     let w = c .before .before .before .token-at .ensures in
     let e = c .before .h2 .given .1 in
-    let b = c .before .before .before .before .before .before .before .shared-slice-known .given (c .before .before .before .before .before .before .before .before .args .at + 3) in
-    let m = c .before .before .before .before .before .before .before .before .pre .0 in
-    (omega (arith, instantiation-falls w p e (omega (arith, b))), (inner-types w p e, (c .before .before .before .before .before .before .before .before .pre .1 .1, arguments-fit w p e (omega (arith, b))))))
+    let b = known .shared-slice-known .given (start .args .at + 3) in
+    let m = start .pre .0 in
+    (omega (arith, instantiation-falls w p e (omega (arith, b))), (inner-types w p e, (start .pre .1 .1, arguments-fit w p e (omega (arith, b))))))
     (λ c. search needs)
     (λ c κs. search needs)
     (λ c. rw (c .leaf-abilities .ensures) (leaf-abilities (c .before .before .before .before .token-at .ensures) (c .before .before .command .given .1)))
-    (λ c. rw (c .vector-abilities .ensures) (vector-abilities (c .before .before .before .before .before .before .before .token-at .ensures) (rw (c .before .before .enum-told .given .1) at (c .before .before .before .before .before .wrapper .given .1)) (c .before .abilities .ensures)))
-    (λ c. reference-abilities (c .before .before .before .before .before .token-at .ensures) (rw (c .enum-told2 .given .1) at (c .before .before .before .wrapper .given .1)))
-    (λ c. mutable-reference-abilities (c .before .before .before .before .before .token-at .ensures) (rw (c .enum-told3 .given .1) at (c .before .before .before .wrapper .given .1)))
+    (λ c. let told = c .before .before in
+    let wrapper = told .before .before .before in
+    rw (c .vector-abilities .ensures)
+    (vector-abilities (wrapper .before .before .token-at .ensures) (rw (told .enum-told .given .1) at (wrapper .wrapper .given .1))
+    (c .before .abilities .ensures)))
+    (λ c. let wrapper = c .before .before .before in
+    reference-abilities (wrapper .before .before .token-at .ensures) (rw (c .enum-told2 .given .1) at (wrapper .wrapper .given .1)))
+    (λ c. let wrapper = c .before .before .before in
+    mutable-reference-abilities (wrapper .before .before .token-at .ensures) (rw (c .enum-told3 .given .1) at (wrapper .wrapper .given .1)))
     (λ c. struct-abilities (c .before .before .before .before .token-at .ensures) (c .before .before .h .given .1) (c .struct-abilities .ensures))
     (λ c. instantiation-type (c .before .before .before .before .token-at .ensures) (c .before .before .h2 .given .1) (c .instantiation-abilities .ensures))
-    (λ c. rw (c .type-parameter-abilities .ensures) (parameter-abilities (c .before .before .before .before .token-at .ensures) (c .before .before .i .given .1))))
+    (λ c. let i = c .before .before in
+    rw (c .type-parameter-abilities .ensures) (parameter-abilities (i .before .before .token-at .ensures) (i .i .given .1))))
     (λ t. gather-lts.spec (
       abilities-below t,
       abilities.Post,
@@ -149,11 +159,18 @@ pub +abilities+gather+instantiation-abilities-spec : {M : Type 1} → statement 
     (λ c. omega (arith, c .before .before .before .before .before .loop .inv .room, c .before .before .before .before .loop-test .taken))
     (λ c. search needs)
     (λ c. c .before .before .before .before .before .loop .inv .long)
-    (λ c. gathering-refused (c .before .before .before .before .before .loop .inv) (c .before .before .before .before .loop-test .taken) (rw (c .before .status .given .1) at (c .before .before .before .abilities .ensures)))
-    (λ c κs. gathering-type (c .before .before .before .before .before .loop .inv) (c .before .before .before .before .loop-test .taken) (c .before .before .before .before .before .before .before .before .before .before .before .pre .1 .0) (c .before .before .before .before .before .before .before .before .before .before .before .pre .1 .1 .0))
+    (λ c. let turn = c .before .before .before .before .before in
+    gathering-refused (turn .loop .inv) (c .before .before .before .before .loop-test .taken)
+    (rw (c .before .status .given .1) at (c .before .before .before .abilities .ensures)))
+    (λ c κs. let turn = c .before .before .before .before .before in
+    let start = turn .before .before .before .before .before .before in
+    gathering-type (turn .loop .inv) (c .before .before .before .before .loop-test .taken) (start .pre .1 .0) (start .pre .1 .1 .0))
     (λ c. omega arith)
     (λ c. omega arith)
-    (λ c. gathering-next (c .before .before .before .before .before .before .loop .inv) (c .before .before .before .before .before .loop-test .taken) (rw (c .before .before .set .given .1) at (c .before .before .before .before .abilities .ensures)) (c .end-of-type .ensures))
+    (λ c. let set = c .before .before in
+    let turn = set .before .before .before .before in
+    gathering-next (turn .loop .inv) (set .before .before .before .loop-test .taken)
+    (rw (set .set .given .1) at (set .before .before .abilities .ensures)) (c .end-of-type .ensures))
     (λ c. c .before .loop .inv .long)
     (λ c. gathering-done (c .before .loop .inv) (omega arith)))
     λ t. instantiation-abilities-lts.spec (
@@ -169,15 +186,22 @@ pub +abilities+gather+instantiation-abilities-spec : {M : Type 1} → statement 
     (λ c κs. search needs)
     (λ c. search needs)
     (λ c. search needs)
-    (λ c κs.
-    let m = c .before .before .before .before .before .before .before .before .before .pre .0 in
-    (omega arith, (c .before .before .before .before .before .before .before .before .before .pre .1 .0, (c .before .before .before .before .before .before .before .before .before .pre .1 .1 .0, c .before .before .before .before .before .before .before .before .before .pre .1 .1 .1))))
+    (λ c κs. let start = c .before .before .before .before .before .before .before .before .before in
+    let m = start .pre .0 in
+    (omega arith, (start .pre .1 .0, (start .pre .1 .1 .0, start .pre .1 .1 .1))))
     (λ c. search needs)
     (λ c. omega (arith, c .before .before .before .gather .ensures .room))
     (λ c. sym (length-take-le _ _ (c .before .before .before .before .gather .ensures .room)))
-    (λ c κs. handle-found (c .before .before .before .before .before .before .before .before .before .before .before .before .before .before .pre .1 .1 .0) (rw (c .before .before .before .before .before .before .before .p .given .1) at (c .before .before .before .before .before .before .before .before .before .struct-handle-at .ensures)))
+    (λ c κs. let found = c .before .before .before .before .before .before .before in
+    let start = found .before .before .before .before .before .before .before in
+    handle-found (start .pre .1 .1 .0) (rw (found .p .given .1) at (found .before .before .struct-handle-at .ensures)))
     (λ c. search needs)
     (λ c. search needs)
-    (λ c. instantiation-abilities (rw (c .before .before .before .before .before .before .before .before .p .given .1) at (c .before .before .before .before .before .before .before .before .before .before .struct-handle-at .ensures)) (rw (c .before .before .enum-told .given .1) at (c .before .before .before .before .before .gather .ensures)) (c .instantiated-abilities .ensures))
-    (λ c. argument-refused (rw (c .before .before .before .before .before .before .before .p .given .1) at (c .before .before .before .before .before .before .before .before .before .struct-handle-at .ensures)) (rw (c .before .status .given .1) at (c .before .before .before .before .gather .ensures)))
+    (λ c. let told = c .before .before in
+    let found = told .before .before .before .before .before .before in
+    instantiation-abilities (rw (found .p .given .1) at (found .before .before .struct-handle-at .ensures))
+    (rw (told .enum-told .given .1) at (told .before .before .before .gather .ensures)) (c .instantiated-abilities .ensures))
+    (λ c. let found = c .before .before .before .before .before .before .before in
+    argument-refused (rw (found .p .given .1) at (found .before .before .struct-handle-at .ensures))
+    (rw (c .before .status .given .1) at (c .before .before .before .before .gather .ensures)))
     (λ c. instantiation-past (rw (c .enum-told2 .given .1) at (c .before .before .struct-handle-at .ensures)))

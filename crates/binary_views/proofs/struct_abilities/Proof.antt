@@ -12,8 +12,11 @@ struct-abilities-spec =
     (tie.spec
     (λ c κs. search needs)
     (λ c. search needs)
-    (λ c. omega (arith, handle-room (handle-found (c .before .before .before .before .before .before .pre) (rw (c .before .p .given .1) at (c .before .before .before .struct-handle-at .ensures)))))
-    (λ c. omega (arith, handle-room (handle-found (c .before .before .before .before .before .before .before .pre) (rw (c .before .before .p .given .1) at (c .before .before .before .before .struct-handle-at .ensures)))))
+    (λ c. let start = c .before .before .before .before .before .before in
+    omega (arith, handle-room (handle-found (start .pre) (rw (c .before .p .given .1) at (c .before .before .before .struct-handle-at .ensures)))))
+    (λ c. let found = c .before .before in
+    let start = found .before .before .before .before .before in
+    omega (arith, handle-room (handle-found (start .pre) (rw (found .p .given .1) at (found .before .before .struct-handle-at .ensures)))))
     (λ c. search needs)
     (λ c. struct-found (rw (c .before .before .p .given .1) at (c .before .before .before .before .struct-handle-at .ensures)))
     (λ c. struct-past (rw (c .enum-told .given .1) at (c .before .before .struct-handle-at .ensures))))

@@ -29,7 +29,16 @@ copy-spec =
     (λ c. search needs)
     (λ c. search needs)
     (λ c. search needs)
-    (λ c. let v = c .before .before .loop .inv in let i = c .before .before .loop .i in let a = c .before .before .before .args in (omega arith, length-set (c .before .before .loop .out) (a .w + i) (getD (a .s .now) (a .from + i) 0) ∙ v .1, ap (λ (l : List ℕ). set l (a .w + i) (getD (a .s .now) (a .from + i) 0)) (v .2) ∙ copied-more (a .out .now) (a .w) (a .s .now) (a .from) i (omega arith)))
+    (λ c. let turn = c .before .before in
+    let start = turn .before in
+    let v = turn .loop .inv in
+    let i = turn .loop .i in
+    let a = start .args in (
+      omega arith,
+      length-set (turn .loop .out) (a .w + i) (getD (a .s .now) (a .from + i) 0) ∙ v .1,
+      ap (λ (l : List ℕ). set l (a .w + i) (getD (a .s .now) (a .from + i) 0)) (v .2)
+          ∙ copied-more (a .out .now) (a .w) (a .s .now) (a .from) i (omega arith),
+    ))
     (λ c. search needs)
     (λ c. search needs)
     (λ c. let a = c .before .before .args in

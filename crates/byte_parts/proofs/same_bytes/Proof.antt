@@ -27,5 +27,8 @@ same-bytes-spec =
     (λ c. bytes-differ (c .before .before .before .before .before .pre) (c .before .before .before .before .loop .i) (omega arith) (c .if1 .taken))
     (λ c. search needs)
     (λ c. search needs)
-    (λ c. let a = c .before .before .before .before .before .args in (omega arith, alike-more (a .a .now) (a .x) (a .b .now) (a .y) (c .before .before .before .before .loop .i) (c .before .before .before .before .loop .inv .1) (c .if1 .left)))
+    (λ c. let turn = c .before .before .before .before in
+    let start = turn .before in
+    let a = start .args in
+    (omega arith, alike-more (a .a .now) (a .x) (a .b .now) (a .y) (turn .loop .i) (turn .loop .inv .1) (c .if1 .left)))
     (λ c. bytes-same (c .before .before .pre) (omega arith) (c .before .loop .inv .1)))

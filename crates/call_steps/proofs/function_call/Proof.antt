@@ -18,7 +18,10 @@ function-call-spec =
     (λ c. search needs)
     (λ c. search needs)
     (λ c. search needs)
-    (λ c κs. (c .before .before .before .before .before .before .before .before .before .pre .0, (c .before .before .before .before .before .before .before .before .before .pre .1, record { subst = []; standing = none })))
+    (λ c κs. let start = c .before .before .before .before .before .before .before .before .before in
+    (start .pre .0, (start .pre .1, record { subst = []; standing = none })))
     (λ c p. told-bad function-handle (c .before .before .before .function-handle-at .ensures p) _ (c .before .status .given .1) refl)
     (λ c. search needs)
-    (λ c p. told-then function-handle (c .before .before .before .before .before .before .before .before .function-handle-at .ensures p) _ (c .before .before .before .before .before .before .handle .given .1) refl (c .before .before .call .ensures p (record { subst = []; standing = none }))))
+    (λ c p. let handle = c .before .before .before .before .before .before in
+    told-then function-handle (handle .before .before .function-handle-at .ensures p) _ (handle .handle .given .1) refl
+    (c .before .before .call .ensures p (record { subst = []; standing = none }))))

@@ -17,4 +17,6 @@ push-part-spec =
     (λ c. push-over _ (sym (part-length (c .before .before .before .pre .1))) (c .before .before .before .pre .0) (omega arith))
     (λ c κs. search needs)
     (λ c. search needs)
-    (λ c. push-entered _ (sym (part-length (c .before .before .before .before .before .before .before .pre .1))) (omega arith) (c .before .before .write-part .ensures .0) (c .before .before .write-part .ensures .1)))
+    (λ c. let start = c .before .before .before .before .before .before .before in
+    push-entered _ (sym (part-length (start .pre .1))) (omega arith) (c .before .before .write-part .ensures .0)
+    (c .before .before .write-part .ensures .1)))

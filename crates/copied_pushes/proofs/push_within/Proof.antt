@@ -15,4 +15,6 @@ push-within-spec =
     (λ c. search needs)
     (λ c κs. search needs)
     (λ c. search needs)
-    (λ c. push-sealed _ (sym (part-length (c .before .before .before .before .before .before .before .before .before .pre .1 .1))) (omega arith) (c .before .before .before .before .before .before .slide .ensures) (c .before .before .seal .ensures .1) (c .before .before .seal .ensures .0)))
+    (λ c. let start = c .before .before .before .before .before .before .before .before .before in
+    push-sealed _ (sym (part-length (start .pre .1 .1))) (omega arith) (c .before .before .before .before .before .before .slide .ensures)
+    (c .before .before .seal .ensures .1) (c .before .before .seal .ensures .0)))

@@ -26,4 +26,7 @@ push-wrapped-spec =
     (λ c κs. search needs)
     (λ c κs. search needs)
     (λ c. search needs)
-    (λ c. push-lent-under _ _ (omega (arith, part-length (c .before .before .before .before .before .before .before .before .before .before .before .before .before .before .before .pre .1))) (omega arith) (c .before .before .before .before .before .before .before .before .before .before .put-command .ensures) (c .before .before .before .before .before .before .copy-part .ensures) (c .before .before .seal .ensures .1) (c .before .before .seal .ensures .0)))
+    (λ c. let start = c .before .before .before .before .before .before .before .before .before .before .before .before .before .before .before in
+    push-lent-under _ _ (omega (arith, part-length (start .pre .1))) (omega arith)
+    (c .before .before .before .before .before .before .before .before .before .before .put-command .ensures)
+    (c .before .before .before .before .before .before .copy-part .ensures) (c .before .before .seal .ensures .1) (c .before .before .seal .ensures .0)))

@@ -27,6 +27,8 @@ slide-spec =
     (λ c. omega arith)
     (λ c. omega arith)
     (λ c. omega arith)
-    (λ c. copying-more (c .before .before .loop .inv) (c .before .loop-test .taken) refl (copying-ahead (c .before .before .loop .inv) _ (omega arith) ∙ part-byte _ _ _ _ (c .before .loop-test .taken)))
+    (λ c. let turn = c .before .before in
+    copying-more (turn .loop .inv) (c .before .loop-test .taken) refl
+    (copying-ahead (turn .loop .inv) _ (omega arith) ∙ part-byte _ _ _ _ (c .before .loop-test .taken)))
     (λ c. c .before .loop .inv .same)
     (λ c. copying-end (c .before .loop .inv) (c .loop-test .left)))

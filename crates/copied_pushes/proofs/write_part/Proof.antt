@@ -21,5 +21,8 @@ write-part-spec =
     (λ c. let start = c .before .before .before .before .before .before .before .before .before .before in
     let a = start .args .area .now in
     let w = start .args .weight in
-    let bs = part (start .args .src .now) (start .args .from) (start .args .to) in
-    (c .before .before .seal .ensures .0, sealed a w bs (sym (part-length (start .pre .0))) (start .pre .1) (lent a bs w (c .before .before .before .before .before .before .copy-part .ensures)) (c .before .before .seal .ensures .1))))
+    let bs = part (start .args .src .now) (start .args .from) (start .args .to) in (
+      c .before .before .seal .ensures .0,
+      sealed a w bs (sym (part-length (start .pre .0))) (start .pre .1)
+          (lent a bs w (c .before .before .before .before .before .before .copy-part .ensures)) (c .before .before .seal .ensures .1),
+    )))

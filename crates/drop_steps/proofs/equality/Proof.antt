@@ -9,6 +9,10 @@ use borrow.Author.Needs.{needs}
 use Rattle.drop_steps.proofs.equality.Statement.{statement}
 use Rattle.drop_steps.proofs.equality.Tie as tie
 
+-- back from `enum-told2` to `top`
+abbrev to-top : tie.After-enum-told2 → tie.After-top
+to-top c = c .before .before .before .before .before
+
 pub equality-spec : {M : Type 1} → statement M
 unfolding step.equality
 equality-spec =
@@ -25,8 +29,21 @@ equality-spec =
     (λ c κs. search operands)
     (λ c κs. search operands)
     (λ c. search needs)
-    (λ c p. two-then (c .before .before .before .before .before .before .before .before .peek-two .ensures) (c .before .before .before .before .before .before .top .given .1) (λ t u h k. ability-bad (c .before .before .before .check-ability .ensures p (operand h)) (c .before .status .given .1) (λ set m. check-bad _ (no-left _ refl m))))
+    (λ c p. let top = c .before .before .before .before .before .before in
+    two-then (top .before .before .peek-two .ensures) (top .top .given .1)
+    (λ t u h k. ability-bad (c .before .before .before .check-ability .ensures p (operand h)) (c .before .status .given .1)
+    (λ set m. check-bad _ (no-left _ refl m))))
     (λ c. search needs)
-    (λ c p. two-then (c .before .before .before .before .before .before .before .before .before .before .before .before .before .before .peek-two .ensures) (c .before .before .before .before .before .before .before .before .before .before .before .before .top .given .1) (λ t u h k. ability-then (c .before .before .before .before .before .before .before .before .before .check-ability .ensures p (operand h)) (c .before .before .before .before .before .before .before .enum-told2 .given .1) (λ set m. check-then _ _ (yes-both refl m (c .before .before .before .before .before .same-type .ensures (span h) (operand k)) (c .before .before .before .before .if1 .taken)) (push-leaf (c .before .before .push-leaf .ensures) is-bool))))
+    (λ c p. let told = c .before .before .before .before .before .before .before in
+    let top = to-top told in
+    two-then (top .before .before .peek-two .ensures) (top .top .given .1)
+    (λ t u h k. ability-then (told .before .before .check-ability .ensures p (operand h)) (told .enum-told2 .given .1)
+    (λ set m. check-then _ _
+    (yes-both refl m (c .before .before .before .before .before .same-type .ensures (span h) (operand k)) (c .before .before .before .before .if1 .taken))
+    (push-leaf (c .before .before .push-leaf .ensures) is-bool))))
     (λ c. search needs)
-    (λ c p. two-then (c .before .before .before .before .before .before .before .before .before .before .peek-two .ensures) (c .before .before .before .before .before .before .before .before .top .given .1) (λ t u h k. ability-then (c .before .before .before .before .before .check-ability .ensures p (operand h)) (c .before .before .before .enum-told2 .given .1) (λ set m. check-bad _ (no-right refl m (c .before .same-type .ensures (span h) (operand k)) (c .if1 .left))))))
+    (λ c p. let told = c .before .before .before in
+    let top = to-top told in
+    two-then (top .before .before .peek-two .ensures) (top .top .given .1)
+    (λ t u h k. ability-then (told .before .before .check-ability .ensures p (operand h)) (told .enum-told2 .given .1)
+    (λ set m. check-bad _ (no-right refl m (c .before .same-type .ensures (span h) (operand k)) (c .if1 .left))))))

@@ -19,5 +19,9 @@ pop-step-spec =
     (λ c κs. search operands)
     (λ c. search needs)
     (λ c. search needs)
-    (λ c p. pop-then (c .before .before .before .before .before .before .before .peek .ensures) (c .before .before .before .before .before .top .given .1) (λ t h. ability-bad (c .before .before .before .check-ability .ensures p (operand h)) (c .before .status .given .1) (λ set m. check-last-bad m)))
-    (λ c p. pop-then (c .before .before .before .before .before .before .peek .ensures) (c .before .before .before .before .top .given .1) (λ t h. ability-then (c .before .before .check-ability .ensures p (operand h)) (c .enum-told2 .given .1) (λ set m. check-last _ m))))
+    (λ c p. let top = c .before .before .before .before .before in
+    pop-then (top .before .before .peek .ensures) (top .top .given .1)
+    (λ t h. ability-bad (c .before .before .before .check-ability .ensures p (operand h)) (c .before .status .given .1) (λ set m. check-last-bad m)))
+    (λ c p. let top = c .before .before .before .before in
+    pop-then (top .before .before .peek .ensures) (top .top .given .1)
+    (λ t h. ability-then (c .before .before .check-ability .ensures p (operand h)) (c .enum-told2 .given .1) (λ set m. check-last _ m))))

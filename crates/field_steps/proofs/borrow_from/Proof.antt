@@ -25,11 +25,32 @@ borrow-from-spec =
     (λ c. search needs)
     (λ c. search needs)
     (λ c. search needs)
-    (λ c κs. let q = c .before .before .before .before .before .before .before .before .before .before .before .pre .1 .1 in (types-at q, (list-small q, omega (arith, c .before .before .before .before .before .before .before .before .before .before .before .pre .1 .2))))
+    (λ c κs. let start = c .before .before .before .before .before .before .before .before .before .before .before in
+    let q = start .pre .1 .1 in
+    (types-at q, (list-small q, omega (arith, start .pre .1 .2))))
     (λ c. search needs)
-    (λ c. sym (length-take-le _ _ (omega (arith, list-small (c .before .before .before .before .before .before .before .before .before .before .before .before .before .before .before .pre .1 .1)))))
-    (λ c κs. (c .before .before .before .before .before .before .before .before .before .before .before .before .before .before .before .pre .0 .0, (found-type (c .before .before .before .before .before .before .before .before .field-at .ensures .is (c .before .before .before .before .before .before .before .before .before .before .before .before .before .before .before .pre .1 .0)) (c .before .before .before .before .before .before .place .given .1), arguments-of (c .before .before .before .before .before .before .before .before .before .before .before .before .before .before .before .pre .1 .1) (c .before .before .before .type-places .ensures))))
+    (λ c. let start = c .before .before .before .before .before .before .before .before .before .before .before .before .before .before .before in
+    sym (length-take-le _ _ (omega (arith, list-small (start .pre .1 .1)))))
+    (λ c κs. let place = c .before .before .before .before .before .before in
+    let start = place .before .before .before .before .before .before .before .before .before in (
+      start .pre .0 .0,
+      (
+        found-type (place .before .before .field-at .ensures .is (start .pre .1 .0)) (place .place .given .1),
+        arguments-of (start .pre .1 .1) (c .before .before .before .type-places .ensures),
+      ),
+    ))
     (λ c. search needs)
-    (λ c. record { steps = λ o l p. check-then _ _ (struct-test (c .before .before .before .before .before .struct-is .ensures) (not-false _ (c .before .before .before .before .if1 .left)) o l p) (type-bad (c .before .before .before .field-at .ensures .is o) _ (c .before .status .given .1)) })
+    (λ c. record {
+      steps = λ o l p. check-then _ _
+          (struct-test (c .before .before .before .before .before .struct-is .ensures) (not-false _ (c .before .before .before .before .if1 .left)) o l p)
+          (type-bad (c .before .before .before .field-at .ensures .is o) _ (c .before .status .given .1));
+    })
     (λ c. search needs)
-    (λ c. record { steps = λ o l p. check-then _ _ (struct-test (c .before .before .before .before .before .before .before .before .before .before .before .before .before .struct-is .ensures) (not-false _ (c .before .before .before .before .before .before .before .before .before .before .before .before .if1 .left)) o l p) (type-then (c .before .before .before .before .before .before .before .before .before .before .before .field-at .ensures .is o) _ (c .before .before .before .before .before .before .before .before .before .place .given .1) (λ q. c .before .before .push-field-reference .ensures .steps q (arguments-of l (c .before .before .before .before .before .before .type-places .ensures)))) }))
+    (λ c. let place = c .before .before .before .before .before .before .before .before .before in
+    record {
+      steps = λ o l p. check-then _ _
+          (struct-test (place .before .before .before .before .struct-is .ensures) (not-false _ (place .before .before .before .if1 .left)) o l p)
+          (type-then (place .before .before .field-at .ensures .is o) _ (place .place .given .1)
+          (λ q. c .before .before .push-field-reference .ensures .steps q
+          (arguments-of l (c .before .before .before .before .before .before .type-places .ensures))));
+    }))

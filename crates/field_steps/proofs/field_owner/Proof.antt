@@ -15,5 +15,9 @@ field-owner-spec =
     (λ c. search needs)
     (λ c. search needs)
     (λ c p. no-handle _ _ (c .before .before .before .field-handle-at .ensures p) (c .before .status .given .1))
-    (λ c p. no-owner _ _ (c .before .before .before .before .before .before .before .field-handle-at .ensures p) (c .before .before .before .before .before .handle .given .1) (c .before .before .before .struct-def-at .ensures p) (c .before .status2 .given .1))
-    (λ c p. an-owner _ _ (c .before .before .before .before .before .before .before .field-handle-at .ensures p) (c .before .before .before .before .before .handle .given .1) (c .before .before .before .struct-def-at .ensures p) (c .before .def .given .1)))
+    (λ c p. let handle = c .before .before .before .before .before in
+    no-owner _ _ (handle .before .before .field-handle-at .ensures p) (handle .handle .given .1) (c .before .before .before .struct-def-at .ensures p)
+    (c .before .status2 .given .1))
+    (λ c p. let handle = c .before .before .before .before .before in
+    an-owner _ _ (handle .before .before .field-handle-at .ensures p) (handle .handle .given .1) (c .before .before .before .struct-def-at .ensures p)
+    (c .before .def .given .1)))

@@ -13,7 +13,12 @@ types-named-at-spec =
     (tie.spec
     (λ c κs. search needs)
     (λ c κs. search needs)
-    (λ c κs. let k = c .before .before .before .before .pre in (table-fits (signatures-in (k .unit)), named-below k (c .widest .ensures .0 ∙ c .before .u16-at .ensures)))
+    (λ c κs. let start = c .before .before .before .before in
+    let k = start .pre in
+    (table-fits (signatures-in (k .unit)), named-below k (c .widest .ensures .0 ∙ c .before .u16-at .ensures)))
     (λ c. search needs)
-    (λ c κs. let k = c .before .before .before .before .before .pre in signature-room (k .unit) (named-below k (c .before .widest .ensures .0 ∙ c .before .before .u16-at .ensures)) (c .place .ensures .0))
-    (λ c. λ q. let e = c .before .before .widest .ensures .0 ∙ c .before .before .before .u16-at .ensures in named-here q e (signature-here (q .unit) (named-below q e) (c .before .place .ensures .0) (c .type-list .ensures))))
+    (λ c κs. let start = c .before .before .before .before .before in
+    let k = start .pre in
+    signature-room (k .unit) (named-below k (c .before .widest .ensures .0 ∙ c .before .before .u16-at .ensures)) (c .place .ensures .0))
+    (λ c. λ q. let e = c .before .before .widest .ensures .0 ∙ c .before .before .before .u16-at .ensures in
+    named-here q e (signature-here (q .unit) (named-below q e) (c .before .place .ensures .0) (c .type-list .ensures))))

@@ -11,6 +11,10 @@ use borrow.Author.Needs.{needs}
 use Rattle.global_steps.proofs.borrow_global.Statement.{statement}
 use Rattle.global_steps.proofs.borrow_global.Tie as tie
 
+-- back from `def` to `below`
+abbrev to-below : tie.After-def → tie.After-below
+to-below c = c .before .before .before .before
+
 pub borrow-global-spec : {M : Type 1} → statement M
 unfolding step.borrowGlobal
 borrow-global-spec =
@@ -25,12 +29,30 @@ borrow-global-spec =
     (λ c κs. search needs)
     (λ c. search needs)
     (λ c. search needs)
-    (λ c κs. (and-stacked (c .before .before .before .before .before .before .before .before .before .before .before .before .pop-leaf .ensures .steps _ is-address) (c .before .before .before .before .before .before .before .before .before .before .before .before .before .before .before .before .before .pre .0) (c .before .before .before .before .before .before .before .before .before .before .below .given .1) refl, (c .before .before .before .before .before .before .before .before .before .before .before .before .before .before .before .before .before .pre .1 .1, omega (arith, unit-short (c .before .before .before .before .before .before .before .before .before .before .before .before .before .before .before .before .before .pre .1 .0)))))
+    (λ c κs. let below = c .before .before .before .before .before .before .before .before .before .before in
+    let start = below .before .before .before .before .before .before .before in (
+      and-stacked (below .before .before .pop-leaf .ensures .steps _ is-address) (start .pre .0) (below .below .given .1) refl,
+      (start .pre .1 .1, omega (arith, unit-short (start .pre .1 .0))),
+    ))
     (λ c. search needs)
     (λ c p q. and-bad (c .before .before .before .pop-leaf .ensures .steps _ is-address) _ (c .before .status .given .1))
     (λ c. search needs)
-    (λ c p q. and-then (c .before .before .before .before .before .before .before .pop-leaf .ensures .steps _ is-address) _ (c .before .before .before .before .before .below .given .1) (def-bad (c .before .before .before .struct-def-at .ensures p) _ (c .before .status2 .given .1)))
+    (λ c p q. let below = c .before .before .before .before .before in
+    and-then (below .before .before .pop-leaf .ensures .steps _ is-address) _ (below .below .given .1)
+    (def-bad (c .before .before .before .struct-def-at .ensures p) _ (c .before .status2 .given .1)))
     (λ c. search needs)
-    (λ c p q. and-then (c .before .before .before .before .before .before .before .before .before .before .before .before .pop-leaf .ensures .steps _ is-address) _ (c .before .before .before .before .before .before .before .before .before .before .below .given .1) (def-then (c .before .before .before .before .before .before .before .before .struct-def-at .ensures p) _ (c .before .before .before .before .before .before .def .given .1) (λ e n. rw (← n .handle) (ability-bad (c .before .before .before .check-struct-ability .ensures p q) (c .before .status3 .given .1) (λ set m. check-bad _ m)))))
+    (λ c p q. let def = c .before .before .before .before .before .before in
+    let below = to-below def in
+    and-then (below .before .before .pop-leaf .ensures .steps _ is-address) _ (below .below .given .1)
+    (def-then (def .before .before .struct-def-at .ensures p) _ (def .def .given .1)
+    (λ e n. rw (← n .handle)
+    (ability-bad (c .before .before .before .check-struct-ability .ensures p q) (c .before .status3 .given .1) (λ set m. check-bad _ m)))))
     (λ c. search needs)
-    (λ c p q. and-then (c .before .before .before .before .before .before .before .before .before .before .before .before .before .before .before .pop-leaf .ensures .steps _ is-address) _ (c .before .before .before .before .before .before .before .before .before .before .before .before .before .below .given .1) (def-then (c .before .before .before .before .before .before .before .before .before .before .before .struct-def-at .ensures p) _ (c .before .before .before .before .before .before .before .before .before .def .given .1) (λ e n. rw (← n .handle) (ability-then (c .before .before .before .before .before .before .check-struct-ability .ensures p q) (c .before .before .before .before .enum-told .given .1) (λ set m. check-then _ _ m (c .before .before .push-struct-reference .ensures .steps q)))))))
+    (λ c p q. let told = c .before .before .before .before in
+    let def = told .before .before .before .before .before in
+    let below = to-below def in
+    and-then (below .before .before .pop-leaf .ensures .steps _ is-address) _ (below .below .given .1)
+    (def-then (def .before .before .struct-def-at .ensures p) _ (def .def .given .1)
+    (λ e n. rw (← n .handle)
+    (ability-then (told .before .before .check-struct-ability .ensures p q) (told .enum-told .given .1)
+    (λ set m. check-then _ _ m (c .before .before .push-struct-reference .ensures .steps q)))))))

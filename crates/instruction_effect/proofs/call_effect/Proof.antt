@@ -21,10 +21,12 @@ call-effect-spec =
     (λ c κs. search needs)
     (λ c κs. search needs)
     returns
-    (λ c p.
-    let parameters = signature-told _ (c .before .before .before .before .before .before .before .signature-at .ensures p) (c .before .before .before .before .before .parameters .given .1) in
-    found _ parameters (refused _ (signature-told _ (c .before .before .before .signature-at2 .ensures p) (c .before .status2 .given .1))) ∙ call-by-counts _ _)
-    (λ c p.
-    let parameters = signature-told _ (c .before .before .before .before .before .before .before .before .before .signature-at .ensures p) (c .before .before .before .before .before .before .before .parameters .given .1) in
-    let returns = signature-told _ (c .before .before .before .before .before .signature-at2 .ensures p) (c .before .before .before .returns .given .1) in
+    (λ c p. let k = c .before .before .before .before .before in
+    let parameters = signature-told _ (k .before .before .signature-at .ensures p) (k .parameters .given .1) in
+    found _ parameters (refused _ (signature-told _ (c .before .before .before .signature-at2 .ensures p) (c .before .status2 .given .1)))
+    ∙ call-by-counts _ _)
+    (λ c p. let r = c .before .before .before in
+    let k = r .before .before .before .before in
+    let parameters = signature-told _ (k .before .before .signature-at .ensures p) (k .parameters .given .1) in
+    let returns = signature-told _ (r .before .before .signature-at2 .ensures p) (r .returns .given .1) in
     found _ parameters (found _ returns (rw (c .wide2 .ensures, c .before .wide .ensures))) ∙ call-by-counts _ _))

@@ -15,4 +15,6 @@ call-effect-at-spec =
     (λ c. search needs)
     (λ c κs. search needs)
     (λ c p. refused _ (sym (is-told function-handle (c .before .before .before .function-handle-at .ensures p) (c .before .status .given .1))))
-    (λ c p. found _ (sym (is-told function-handle (c .before .before .before .before .function-handle-at .ensures p) (c .before .before .handle .given .1))) (c .call-effect .ensures p)))
+    (λ c p. let handle = c .before .before in
+    found _ (sym (is-told function-handle (handle .before .before .function-handle-at .ensures p) (handle .handle .given .1)))
+    (c .call-effect .ensures p)))

@@ -15,4 +15,6 @@ call-generic-effect-at-spec =
     (λ c. search needs)
     (λ c κs. search needs)
     (λ c p. refused _ (sym (is-told function-instantiation (c .before .before .before .function-instantiation-at .ensures p) (c .before .status .given .1))))
-    (λ c p. found _ (sym (is-told function-instantiation (c .before .before .before .before .function-instantiation-at .ensures p) (c .before .before .inst .given .1))) (c .call-effect-at .ensures p)))
+    (λ c p. let inst = c .before .before in
+    found _ (sym (is-told function-instantiation (inst .before .before .function-instantiation-at .ensures p) (inst .inst .given .1)))
+    (c .call-effect-at .ensures p)))

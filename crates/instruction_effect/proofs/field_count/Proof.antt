@@ -14,12 +14,15 @@ returns c p = definition-told _ (c .before .before .before .struct-def-at .ensur
 
 returns-2 : tie.Need-returns-2
 unfolding fieldCountAt
-returns-2 c p = rw (c .enum-told .given .1) at (definition-told _ (c .before .before .before .before .before .struct-def-at .ensures p) (c .before .before .before .def .given .1))
+returns-2 c p =
+    let k = c .before .before .before in
+    rw (c .enum-told .given .1) at (definition-told _ (k .before .before .struct-def-at .ensures p) (k .def .given .1))
 
 returns-3 : tie.Need-returns-3
 unfolding fieldCountAt
 returns-3 c p =
-    let counted = definition-told _ (c .before .before .before .before .before .before .before .struct-def-at .ensures p) (c .before .before .before .before .before .def .given .1) in
+    let k = c .before .before .before .before .before in
+    let counted = definition-told _ (k .before .before .struct-def-at .ensures p) (k .def .given .1) in
     rw (c .wide .ensures) (rw (c .before .before .fields .given .1) at counted)
 
 pub field-count-spec : {M : Type 1} → statement M

@@ -13,7 +13,9 @@ returns c p = refused _ (sym (is-told struct-instantiation (c .before .before .b
 
 returns-2 : tie.Need-returns-2
 unfolding fieldCountOfInstantiation
-returns-2 c p = found _ (sym (is-told struct-instantiation (c .before .before .before .before .struct-instantiation-at .ensures p) (c .before .before .inst .given .1))) (c .field-count .ensures p)
+returns-2 c p =
+    let told = is-told struct-instantiation (c .before .before .before .before .struct-instantiation-at .ensures p) (c .before .before .inst .given .1) in
+    found _ (sym told) (c .field-count .ensures p)
 
 pub field-count-of-instantiation-spec : {M : Type 1} → statement M
 field-count-of-instantiation-spec =

@@ -26,7 +26,9 @@ returns-4 c p = looked-up (c .before .before .before .instruction-at .ensures p)
 
 returns-5 : tie.Need-returns-5
 unfolding instructionOf instructionEffect
-returns-5 c p = looked-up (c .before .before .before .instruction-at .ensures p) 20 (omega arith) (rw (c .before .field-count-of-instantiation .ensures p) at (c .pack-effect2 .ensures))
+returns-5 c p =
+    looked-up (c .before .before .before .instruction-at .ensures p) 20 (omega arith)
+    (rw (c .before .field-count-of-instantiation .ensures p) at (c .pack-effect2 .ensures))
 
 returns-6 : tie.Need-returns-6
 unfolding instructionOf instructionEffect
@@ -34,7 +36,9 @@ returns-6 c p = looked-up (c .before .before .before .instruction-at .ensures p)
 
 returns-7 : tie.Need-returns-7
 unfolding instructionOf instructionEffect
-returns-7 c p = looked-up (c .before .before .before .instruction-at .ensures p) 22 (omega arith) (rw (c .before .field-count-of-instantiation2 .ensures p) at (c .unpack-effect2 .ensures))
+returns-7 c p =
+    looked-up (c .before .before .before .instruction-at .ensures p) 22 (omega arith)
+    (rw (c .before .field-count-of-instantiation2 .ensures p) at (c .unpack-effect2 .ensures))
 
 returns-8 : tie.Need-returns-8
 unfolding instructionOf instructionEffect

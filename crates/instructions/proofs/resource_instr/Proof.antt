@@ -13,17 +13,23 @@ resource-instr-spec =
     tie.close
     (tie.spec
     (λ c κs. search needs)
-    (λ c κs. (c .before .before .before .before .before .before .pre .0, (c .before .before .before .before .before .before .pre .1 .0, looked (c .before .plain-struct .ensures (c .before .before .before .before .before .before .pre .1 .0)))))
+    (λ c κs. let start = c .before .before .before .before .before .before in
+    (start .pre .0, (start .pre .1 .0, looked (c .before .plain-struct .ensures (start .pre .1 .0)))))
     (λ c κs. search needs)
-    (λ c κs. (c .before .before .before .before .before .before .pre .0, (c .before .before .before .before .before .before .pre .1 .0, looked (c .before .generic-struct .ensures (c .before .before .before .before .before .before .pre .1 .0)))))
+    (λ c κs. let start = c .before .before .before .before .before .before in
+    (start .pre .0, (start .pre .1 .0, looked (c .before .generic-struct .ensures (start .pre .1 .0)))))
     (λ c κs. search needs)
-    (λ c κs. (c .before .before .before .before .before .before .pre .0, (c .before .before .before .before .before .before .pre .1 .0, looked (c .before .plain-struct2 .ensures (c .before .before .before .before .before .before .pre .1 .0)))))
+    (λ c κs. let start = c .before .before .before .before .before .before in
+    (start .pre .0, (start .pre .1 .0, looked (c .before .plain-struct2 .ensures (start .pre .1 .0)))))
     (λ c κs. search needs)
-    (λ c κs. (c .before .before .before .before .before .before .pre .0, (c .before .before .before .before .before .before .pre .1 .0, looked (c .before .generic-struct2 .ensures (c .before .before .before .before .before .before .pre .1 .0)))))
+    (λ c κs. let start = c .before .before .before .before .before .before in
+    (start .pre .0, (start .pre .1 .0, looked (c .before .generic-struct2 .ensures (start .pre .1 .0)))))
     (λ c κs. search needs)
-    (λ c κs. (c .before .before .before .before .before .before .pre .0, (c .before .before .before .before .before .before .pre .1 .0, looked (c .before .plain-struct3 .ensures (c .before .before .before .before .before .before .pre .1 .0)))))
+    (λ c κs. let start = c .before .before .before .before .before .before in
+    (start .pre .0, (start .pre .1 .0, looked (c .before .plain-struct3 .ensures (start .pre .1 .0)))))
     (λ c κs. search needs)
-    (λ c κs. (c .before .before .before .before .before .before .pre .0, (c .before .before .before .before .before .before .pre .1 .0, looked (c .before .generic-struct3 .ensures (c .before .before .before .before .before .before .pre .1 .0)))))
+    (λ c κs. let start = c .before .before .before .before .before .before in
+    (start .pre .0, (start .pre .1 .0, looked (c .before .generic-struct3 .ensures (start .pre .1 .0)))))
     (λ c. search needs)
     (λ c p. key-does 55 (omega arith) (c .before .before .exists .ensures p (looked (c .before .before .before .before .plain-struct .ensures p))))
     (λ c. search needs)

@@ -13,13 +13,17 @@ struct-instr-spec =
     tie.close
     (tie.spec
     (λ c κs. search needs)
-    (λ c κs. (c .before .before .before .before .before .before .pre .0, looked-short (c .before .before .before .before .before .before .pre .1 .0) (c .plain-struct .ensures (c .before .before .before .before .before .before .pre .1 .0))))
+    (λ c κs. let start = c .before .before .before .before .before .before in
+    (start .pre .0, looked-short (start .pre .1 .0) (c .plain-struct .ensures (start .pre .1 .0))))
     (λ c κs. search needs)
-    (λ c κs. (c .before .before .before .before .before .before .pre .0, looked-short (c .before .before .before .before .before .before .pre .1 .0) (c .generic-struct .ensures (c .before .before .before .before .before .before .pre .1 .0))))
+    (λ c κs. let start = c .before .before .before .before .before .before in
+    (start .pre .0, looked-short (start .pre .1 .0) (c .generic-struct .ensures (start .pre .1 .0))))
     (λ c κs. search needs)
-    (λ c κs. (c .before .before .before .before .before .before .pre .0, looked-short (c .before .before .before .before .before .before .pre .1 .0) (c .plain-struct2 .ensures (c .before .before .before .before .before .before .pre .1 .0))))
+    (λ c κs. let start = c .before .before .before .before .before .before in
+    (start .pre .0, looked-short (start .pre .1 .0) (c .plain-struct2 .ensures (start .pre .1 .0))))
     (λ c κs. search needs)
-    (λ c κs. (c .before .before .before .before .before .before .pre .0, looked-short (c .before .before .before .before .before .before .pre .1 .0) (c .before .generic-struct2 .ensures (c .before .before .before .before .before .before .pre .1 .0))))
+    (λ c κs. let start = c .before .before .before .before .before .before in
+    (start .pre .0, looked-short (start .pre .1 .0) (c .before .generic-struct2 .ensures (start .pre .1 .0))))
     (λ c. search needs)
     (λ c p. key-does 19 (omega arith) (c .before .before .pack .ensures (looked (c .before .before .before .plain-struct .ensures p))))
     (λ c. search needs)

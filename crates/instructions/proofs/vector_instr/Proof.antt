@@ -37,4 +37,8 @@ vector-instr-spec =
     (λ c. search needs)
     (λ c p. key-does 69 (omega arith) (c .before .before .vec-unpack .ensures p))
     (λ c. search needs)
-    (λ c p. key-does 70 (by-arm (69 ∷ 68 ∷ 67 ∷ 66 ∷ 65 ∷ 64 ∷ 63 ∷ []) (λ k. k ≡ 70) 63 8 (tt, (tt, (tt, (tt, (tt, (tt, (tt, (refl, tt)))))))) _ (c .before .before .match .rest) (omega (arith, c .before .before .before .before .before .before .pre .1 .1 .from)) (omega (arith, c .before .before .before .before .before .before .pre .1 .1 .to))) (c .vec-swap .ensures p)))
+    (λ c p. let arm = c .before .before in
+    let start = arm .before .before .before .before in
+    key-does 70
+    (by-arm (69 ∷ 68 ∷ 67 ∷ 66 ∷ 65 ∷ 64 ∷ 63 ∷ []) (λ k. k ≡ 70) 63 8 (tt, (tt, (tt, (tt, (tt, (tt, (tt, (refl, tt)))))))) _ (arm .match .rest)
+    (omega (arith, start .pre .1 .1 .from)) (omega (arith, start .pre .1 .1 .to))) (c .vec-swap .ensures p)))

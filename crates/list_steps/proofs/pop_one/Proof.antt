@@ -16,10 +16,14 @@ pop-one-spec =
     (λ c. search needs)
     (λ c. search needs)
     (λ c p q. pop-none (c .before .before .peek .ensures) _ (c .enum-told .given .1))
-    (λ c κs. (top-span (c .before .before .before .before .before .before .before .pre .0) (c .before .before .before .peek .ensures) (c .before .top .given .1), c .before .before .before .before .before .before .before .pre .1))
+    (λ c κs. let start = c .before .before .before .before .before .before .before in
+    (top-span (start .pre .0) (c .before .before .before .peek .ensures) (c .before .top .given .1), start .pre .1))
     (λ c. search needs)
     (λ c. search needs)
     (λ c. search needs)
-    (λ c. pop-compared (c .before .before .before .before .before .before .peek .ensures) (c .before .before .before .before .top .given .1) (c .before .before .compare .ensures) _ Past (c .enum-told2 .given .1))
-    (λ c. pop-compared (c .before .before .before .before .before .before .peek .ensures) (c .before .before .before .before .top .given .1) (c .before .before .compare .ensures) _ Differs (c .enum-told3 .given .1))
-    (λ c. pop-compared (c .before .before .before .before .before .before .peek .ensures) (c .before .before .before .before .top .given .1) (c .before .before .compare .ensures) _ Same (c .enum-told4 .given .1)))
+    (λ c. let top = c .before .before .before .before in
+    pop-compared (top .before .before .peek .ensures) (top .top .given .1) (c .before .before .compare .ensures) _ Past (c .enum-told2 .given .1))
+    (λ c. let top = c .before .before .before .before in
+    pop-compared (top .before .before .peek .ensures) (top .top .given .1) (c .before .before .compare .ensures) _ Differs (c .enum-told3 .given .1))
+    (λ c. let top = c .before .before .before .before in
+    pop-compared (top .before .before .peek .ensures) (top .top .given .1) (c .before .before .compare .ensures) _ Same (c .enum-told4 .given .1)))

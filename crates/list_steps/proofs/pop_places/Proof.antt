@@ -11,6 +11,10 @@ Inv-loop area weight s places form args status below₀ left₀ below left = Pop
 abbrev μ-loop : tie.MeasureT-loop
 μ-loop area weight s places form args status below₀ left₀ below left = left
 
+-- back from `loop` to the function's entry
+abbrev entry : tie.At-loop Inv-loop μ-loop → tie.Start Inv-loop μ-loop
+entry c = c .before .before .before .before .before
+
 pub pop-places-spec : {M : Type 1} → statement M
 pop-places-spec =
     tie.close
@@ -22,10 +26,20 @@ pop-places-spec =
     (λ c. omega (arith, c .before .loop .inv .most))
     (λ c. omega (arith, c .before .before .loop .inv .most))
     (λ c κs. search needs)
-    (λ c κs. (c .before .before .before .loop .inv .under, (popping-type (c .before .before .before .loop .inv) (c .before .before .loop-test .taken) (c .widest .ensures) (c .before .before .before .before .before .before .before .before .pre .1 .0), c .before .before .before .before .before .before .before .before .pre .1 .1)))
+    (λ c κs. let turn = c .before .before .before in
+    let start = entry turn in (
+      turn .loop .inv .under,
+      (popping-type (turn .loop .inv) (c .before .before .loop-test .taken) (c .widest .ensures) (start .pre .1 .0), start .pre .1 .1),
+    ))
     (λ c. search needs)
-    (λ c. popping-bad (c .before .before .before .before .before .before .before .loop .inv) (c .before .before .before .before .before .before .loop-test .taken) (c .before .before .before .before .widest .ensures) (c .before .before .before .pop-one .ensures) (c .before .why .given .1))
+    (λ c. let turn = c .before .before .before .before .before .before .before in
+    popping-bad (turn .loop .inv) (c .before .before .before .before .before .before .loop-test .taken)
+    (c .before .before .before .before .widest .ensures) (c .before .before .before .pop-one .ensures) (c .before .why .given .1))
     (λ c. search needs)
     (λ c. omega arith)
-    (λ c. popping-next (c .before .before .before .before .before .before .before .loop .inv) (c .before .before .before .before .before .before .loop-test .taken) (c .before .before .before .before .widest .ensures) (c .before .before .before .pop-one .ensures) (c .before .before .before .before .before .before .before .before .before .before .before .before .pre .1 .0) (c .before .before .before .before .before .before .before .before .before .before .before .before .pre .1 .1) (c .before .start .given .1))
+    (λ c. let turn = c .before .before .before .before .before .before .before in
+    let start = entry turn in
+    popping-next (turn .loop .inv) (c .before .before .before .before .before .before .loop-test .taken)
+    (c .before .before .before .before .widest .ensures) (c .before .before .before .pop-one .ensures) (start .pre .1 .0) (start .pre .1 .1)
+    (c .before .start .given .1))
     (λ c. popping-end (c .before .loop .inv) (c .loop-test .left)))

@@ -15,6 +15,8 @@ pop-with-spec =
     (λ c κs. let k = c .before .before .before .before .before .pre .1 in (types-at (k .0 .0), (omega (arith, k .1 .1), omega (arith, k .0 .1))))
     (λ c. search needs)
     (λ c. sym (length-take-le _ _ (omega (arith, c .before .before .before .before .before .before .before .before .before .pre .1 .1 .1))))
-    (λ c κs. let k = c .before .before .before .before .before .before .before .before .before .pre in (k .0, (arguments-of (k .1 .0 .0) (c .before .before .before .type-places .ensures), k .1 .1 .0)))
+    (λ c κs. let start = c .before .before .before .before .before .before .before .before .before in
+    let k = start .pre in
+    (k .0, (arguments-of (k .1 .0 .0) (c .before .before .before .type-places .ensures), k .1 .1 .0)))
     (λ c. search needs)
     (λ c. record { steps = λ p q. c .pop-places .ensures (arguments-of p (c .before .before .before .before .type-places .ensures)) q }))

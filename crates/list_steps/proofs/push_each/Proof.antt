@@ -11,7 +11,10 @@ push-each-spec =
     (λ c κs. search needs)
     (λ c. search needs)
     (λ c. search needs)
-    (λ c κs. (c .before .before .before .before .before .before .before .pre .0, ((c .before .before .before .before .before .before .before .pre .1 .0, weighed-fit (c .before .before .before .weigh-each .ensures) (c .before .enum-told .given .1)), c .before .before .before .before .before .before .before .pre .1 .1)))
+    (λ c κs. let start = c .before .before .before .before .before .before .before in (
+      start .pre .0,
+      ((start .pre .1 .0, weighed-fit (c .before .before .before .weigh-each .ensures) (c .before .enum-told .given .1)), start .pre .1 .1),
+    ))
     (λ c. weighed-stuck (c .before .before .before .weigh-each .ensures) (c .before .status .given .1))
     (λ c. search needs)
     (λ c. search needs))

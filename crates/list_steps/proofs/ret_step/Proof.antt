@@ -15,6 +15,14 @@ ret-step-spec =
     (tie.spec
     (λ c κs. search needs)
     (λ c. search needs)
-    (λ c κs. (c .before .before .before .before .before .pre .0, ((record { types = _; are = c .before .returns .ensures (c .before .before .before .before .before .pre .1) .is }, omega (arith, unit-short (c .before .before .before .before .before .pre .1))), record { subst = _; standing = none })))
+    (λ c κs. let start = c .before .before .before .before .before in (
+      start .pre .0,
+      (
+        (record { types = _; are = c .before .returns .ensures (start .pre .1) .is }, omega (arith, unit-short (start .pre .1))),
+        record { subst = _; standing = none },
+      ),
+    ))
     (λ c κs. search needs)
-    (λ c p. rw (c .rebuilt .ensures) (c .before .pop-each .ensures .steps (record { types = _; are = c .before .before .before .returns .ensures p .is }) (record { subst = _; standing = none }))))
+    (λ c p. rw (c .rebuilt .ensures)
+    (c .before .pop-each .ensures .steps (record { types = _; are = c .before .before .before .returns .ensures p .is })
+    (record { subst = _; standing = none }))))

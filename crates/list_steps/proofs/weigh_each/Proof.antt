@@ -12,6 +12,13 @@ Inv-loop room weight s args n after₀ at₀ i₀ after at i = Weighing room wei
 abbrev μ-loop : tie.MeasureT-loop
 μ-loop room weight s args n after₀ at₀ i₀ after at i = n - i
 
+-- back from `size` to `loop`, and from `loop` to the function's entry
+abbrev to-loop : tie.After-size Inv-loop μ-loop → tie.At-loop Inv-loop μ-loop
+to-loop c = c .before .before .before .before
+
+abbrev entry : tie.At-loop Inv-loop μ-loop → tie.Start Inv-loop μ-loop
+entry c = c .before .before .before
+
 pub weigh-each-spec : {M : Type 1} → statement M
 weigh-each-spec =
     tie.close
@@ -19,16 +26,33 @@ weigh-each-spec =
     Inv-loop
     μ-loop
     (λ c. weighing-start (c .before .before .pre .0 .0))
-    (λ c κs. (weighing-type (c .before .loop .inv) (c .loop-test .taken) (c .before .before .before .before .pre .1 .0) (c .before .before .before .before .pre .1 .1), c .before .before .before .before .pre .1 .1))
+    (λ c κs. let turn = c .before in
+    let start = entry turn in
+    (weighing-type (turn .loop .inv) (c .loop-test .taken) (start .pre .1 .0) (start .pre .1 .1), start .pre .1 .1))
     (λ c. search needs)
     (λ c. search needs)
-    (λ c. weighing-past (c .before .before .before .before .loop .inv) (c .before .before .before .loop-test .taken) (c .before .before .instantiated-size .ensures) (c .enum-told .given .1))
+    (λ c. let turn = c .before .before .before .before in
+    weighing-past (turn .loop .inv) (c .before .before .before .loop-test .taken) (c .before .before .instantiated-size .ensures)
+    (c .enum-told .given .1))
     (λ c. c .before .before .before .before .before .loop .inv .low)
-    (λ c. omega (arith, weighing-small (c .before .before .before .before .before .loop .inv) (c .before .before .before .before .loop-test .taken) (c .before .before .before .instantiated-size .ensures) (c .before .size .given .1) (c .before .before .before .before .before .before .before .before .pre .1 .0) (c .before .before .before .before .before .before .before .before .pre .1 .1)))
-    (λ c. weighing-full (c .before .before .before .before .before .before .loop .inv) (c .before .before .before .before .before .loop-test .taken) (c .before .before .before .before .instantiated-size .ensures) (c .before .before .size .given .1) (c .if1 .taken))
+    (λ c. let turn = c .before .before .before .before .before in
+    let start = entry turn in
+    omega (
+      arith,
+      weighing-small (turn .loop .inv) (c .before .before .before .before .loop-test .taken) (c .before .before .before .instantiated-size .ensures)
+          (c .before .size .given .1) (start .pre .1 .0) (start .pre .1 .1),
+    ))
+    (λ c. let size = c .before .before in
+    let turn = to-loop size in
+    weighing-full (turn .loop .inv) (size .before .before .before .loop-test .taken) (size .before .before .instantiated-size .ensures)
+    (size .size .given .1) (c .if1 .taken))
     (λ c. omega arith)
     (λ c. omega arith)
     (λ c. omega arith)
     (λ c. omega arith)
-    (λ c. weighing-next (c .before .before .before .before .before .before .loop .inv) (c .before .before .before .before .before .loop-test .taken) (c .before .before .before .before .instantiated-size .ensures) (c .before .before .size .given .1) (c .before .before .before .before .before .before .before .before .before .pre .0 .1) (c .if1 .left))
+    (λ c. let size = c .before .before in
+    let turn = to-loop size in
+    let start = entry turn in
+    weighing-next (turn .loop .inv) (size .before .before .before .loop-test .taken) (size .before .before .instantiated-size .ensures)
+    (size .size .given .1) (start .pre .0 .1) (c .if1 .left))
     (λ c. weighing-done (c .before .loop .inv) (c .loop-test .left)))

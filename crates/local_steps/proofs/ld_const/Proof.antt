@@ -13,7 +13,10 @@ ld-const-spec =
     (λ c κs. search needs)
     (λ c. search needs)
     (λ c. search needs)
-    (λ c κs. (c .before .before .before .before .before .before .before .before .pre .0, unit-room (c .before .before .before .before .before .before .before .before .pre .1) (c .before .before .before .before .constant-at .ensures) (c .before .before .constant .given .1)))
+    (λ c κs. let constant = c .before .before in
+    let start = constant .before .before .before .before .before .before in
+    (start .pre .0, unit-room (start .pre .1) (constant .before .before .constant-at .ensures) (constant .constant .given .1)))
     (λ c p. type-bad (c .before .before .before .constant-at .ensures p) _ (c .before .status .given .1))
     (λ c. search needs)
-    (λ c p. type-then (c .before .before .before .before .before .before .before .constant-at .ensures p) _ (c .before .before .before .before .before .constant .given .1) (c .before .before .push-type .ensures .steps)))
+    (λ c p. let constant = c .before .before .before .before .before in
+    type-then (constant .before .before .constant-at .ensures p) _ (constant .constant .given .1) (c .before .before .push-type .ensures .steps)))

@@ -8,6 +8,10 @@ use borrow.Author.Needs.{needs}
 use Rattle.local_steps.proofs.move_loc.Statement.{statement}
 use Rattle.local_steps.proofs.move_loc.Tie as tie
 
+-- back from `at` to the function's entry
+abbrev entry : tie.After-at → tie.Start
+entry c = c .before .before .before .before .before .before .before .before
+
 pub move-loc-spec : {M : Type 1} → statement M
 unfolding step.moveLoc
 move-loc-spec =
@@ -16,7 +20,18 @@ move-loc-spec =
     (λ c κs. search needs)
     (λ c. search needs)
     (λ c. search needs)
-    (λ c κs. let (stacked, (unit, places)) = c .before .before .before .before .before .before .before .before .before .before .pre in let (type, ends, short) = local-room places unit _ (c .before .before .before .before .local-at .ensures) (c .before .before .at .given .1) in (stacked, type-part type ends short))
-    (λ c p. type-bad (local-type (c .before .before .before .before .before .before .before .before .before .pre .1 .1) p _ (c .before .before .before .local-at .ensures) .is) _ (ap placeAlone (c .before .status .given .1)))
+    (λ c κs. let at = c .before .before in
+    let start = entry at in
+    let (stacked, (unit, places)) = start .pre in
+    let (type, ends, short) = local-room places unit _ (at .before .before .local-at .ensures) (at .at .given .1) in
+    (stacked, type-part type ends short))
+    (λ c p. let start = c .before .before .before .before .before .before .before .before .before in
+    type-bad (local-type (start .pre .1 .1) p _ (c .before .before .before .local-at .ensures) .is) _ (ap placeAlone (c .before .status .given .1)))
     (λ c. search needs)
-    (λ c p. let (stacked, (unit, places)) = c .before .before .before .before .before .before .before .before .before .before .before .before .before .pre in let n = c .before .before .before .before .before .before .before .local-at .ensures in let f = c .before .before .before .before .before .at .given .1 in type-then (local-type places p _ n .is) _ (ap placeAlone f) (λ q. push-declared q (local-room places p _ n f .1) (c .before .before .push-part .ensures))))
+    (λ c p. let at = c .before .before .before .before .before in
+    let start = entry at in
+    let (stacked, (unit, places)) = start .pre in
+    let n = at .before .before .local-at .ensures in
+    let f = at .at .given .1 in
+    type-then (local-type places p _ n .is) _ (ap placeAlone f)
+    (λ q. push-declared q (local-room places p _ n f .1) (c .before .before .push-part .ensures))))

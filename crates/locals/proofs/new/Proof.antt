@@ -41,7 +41,8 @@ use Rattle.locals.proofs.new.Code as code
 abbrev stayed : Stays (new.ended .signature .params) (new.ended .kept)
 stayed = (stay-none-slice (0 ∷ []) tt (plain (λ _. u16)) yes, (stay-none-slice (1 ∷ []) tt (plain (λ _. u16)) yes, tt))
 
-module _ {M : Type 1} (𝓤 : URA M) (H : Heap 𝓤) (A : Atoms 𝓤) (W : Given 𝓤 H A) (mem : Memory → SProp 𝓤) (run : Routine → Fun 𝓤) (κ κ′ : Lft) (q q′ : Share) (s t : RefT (List ℕ)) where
+module _ {M : Type 1} (𝓤 : URA M) (H : Heap 𝓤) (A : Atoms 𝓤) (W : Given 𝓤 H A) (mem : Memory → SProp 𝓤) (run : Routine → Fun 𝓤)
+    (κ κ′ : Lft) (q q′ : Share) (s t : RefT (List ℕ)) where
   abbrev κs : Lfts 2
   κs = (κ, (κ′, tt))
 
@@ -57,24 +58,37 @@ module _ {M : Type 1} (𝓤 : URA M) (H : Heap 𝓤) (A : Atoms 𝓤) (W : Given
   exits : ent 𝓤 (onEntry 𝓤 H A new.signature κs (q, (q′, tt)) (s, (t, tt)) at) (Post (T′.lowered made))
   exits =
       qed W ((‵ (flft κ q) ⊛ ‵ (flft κ′ q′) ⊛ ‵ ftrue) ∷ ‵ (Slices κ κ′ s t ftrue) ∷ []) ∵
-      suffices ! _ (ends-at 𝓤 H A new.ended stayed (new.clauses 𝓤 H A mem run) W ((κs, (q, (q′, tt)), tt, (s, (t, tt)), at), tt) (T′.lowered made) made (tt, (tt, tt)) (tt, (tt, tt))) $ says ! (refl, refl) $
+      suffices ! _ (ends-at 𝓤 H A new.ended stayed (new.clauses 𝓤 H A mem run) W ((κs, (q, (q′, tt)), tt, (s, (t, tt)), at), tt) (T′.lowered made) made
+      (tt, (tt, tt)) (tt, (tt, tt))) $ says ! (refl, refl) $
       frame ! $ use1 W (‵ (Slices κ κ′ s t ftrue) ⊛ ‵ (Slices κ κ′ s t ftrue)) (slices-twice κ κ′ s t 𝓤 H A W ftrue) $ split ! $ frame ! $
       -- what the fields own together is what the struct owns
       by ! (own-shut 𝓤 H A W (D κs) (L κs) (s, (t, tt)))
 
   module _ (C : Calls 𝓤 H) (Λ : Loops 𝓤 H) where
-    walk : Is (ShrSlice (named 0) κ u16) s (fat s ∷ []) → Is (ShrSlice (named 1) κ′ u16) t (fat t ∷ []) → ent 𝓤 (onEntry 𝓤 H A new.signature κs (q, (q′, tt)) (s, (t, tt)) at) (WpFn 𝓤 H C Λ code.function (fat s ∷ fat t ∷ []) Post)
+    walk :
+        Is (ShrSlice (named 0) κ u16) s (fat s ∷ []) → Is (ShrSlice (named 1) κ′ u16) t (fat t ∷ []) →
+        ent 𝓤 (onEntry 𝓤 H A new.signature κs (q, (q′, tt)) (s, (t, tt)) at) (WpFn 𝓤 H C Λ code.function (fat s ∷ fat t ∷ []) Post)
     walk p p′ =
         qed W (raw (onEntry 𝓤 H A new.signature κs (q, (q′, tt)) (s, (t, tt)) at) ∷ []) ∵ enter ! C Λ code.function (fat s ∷ fat t ∷ []) _ $
         alloc1 ! (λ l₀. alloc1 ! (λ l₁. alloc1 ! (λ l₂. alloc0 ! $ params1 ! $
-        pass1 ! (init ! 2 refl (shr-slice-lawful 𝓤 H A W (named 0) κ u16 .typed s (fat s ∷ []) p .0)) $ pass1 ! (init ! 0 refl (shr-slice-lawful 𝓤 H A W (named 1) κ′ u16 .typed t (fat t ∷ []) p′ .0)) $ pass0 ! $
+        pass1 ! (init ! 2 refl (shr-slice-lawful 𝓤 H A W (named 0) κ u16 .typed s (fat s ∷ []) p .0)) $
+        pass1 ! (init ! 0 refl (shr-slice-lawful 𝓤 H A W (named 1) κ′ u16 .typed t (fat t ∷ []) p′ .0)) $ pass0 ! $
         assigns ! (agg ! (and-then ! (load ! (from ! (stop !)) (look ! 2 refl)) (and-then ! (load ! (from ! (stop !)) (look ! 0 refl)) (no-more !)))) (from ! (stop !))
-        (init ! 4 refl (tt, (shr-slice-lawful 𝓤 H A W (named 0) κ u16 .typed s (fat s ∷ []) p .0 .1, (shr-slice-lawful 𝓤 H A W (named 1) κ′ u16 .typed t (fat t ∷ []) p′ .0 .1, tt)))) $
-        returns ! (look ! 4 refl) $ forget ! 0 refl $ forget ! 2 refl $ forget ! 4 refl $ move ! (4 ∷ 5 ∷ []) $ free1 ! $ move ! (2 ∷ 3 ∷ []) $ free1 ! $ free1 ! $ free0 ! $ by ! exits)))
+        (init ! 4 refl (
+          tt,
+          (
+            shr-slice-lawful 𝓤 H A W (named 0) κ u16 .typed s (fat s ∷ []) p .0 .1,
+            (shr-slice-lawful 𝓤 H A W (named 1) κ′ u16 .typed t (fat t ∷ []) p′ .0 .1, tt),
+          ),
+        )) $
+        returns ! (look ! 4 refl) $ forget ! 0 refl $ forget ! 2 refl $ forget ! 4 refl $ move ! (4 ∷ 5 ∷ []) $ free1 ! $ move ! (2 ∷ 3 ∷ []) $ free1 ! $
+        free1 ! $ free0 ! $ by ! exits)))
 
 module _ {M : Type 1} (𝓤 : URA M) (H : Heap 𝓤) (A : Atoms 𝓤) (W : Given 𝓤 H A) (mem : Memory → SProp 𝓤) (run : Routine → Fun 𝓤) where
   new-walks : (C : Calls 𝓤 H) (Λ : Loops 𝓤 H) → Walks 𝓤 H A new.ended stayed (WpFn 𝓤 H C Λ code.function) (new.clauses 𝓤 H A mem run)
-  new-walks C Λ = walked 𝓤 H A new.ended stayed (new.clauses 𝓤 H A mem run) (WpFn 𝓤 H C Λ code.function) (λ κs. (slice-vals, (slice-vals, tt))) (λ κs. (shr-slice-tells (named 0) (κs .0) u16, (shr-slice-tells (named 1) (κs .1 .0) u16, tt)))
+  new-walks C Λ =
+      walked 𝓤 H A new.ended stayed (new.clauses 𝓤 H A mem run) (WpFn 𝓤 H C Λ code.function) (λ κs. (slice-vals, (slice-vals, tt)))
+      (λ κs. (shr-slice-tells (named 0) (κs .0) u16, (shr-slice-tells (named 1) (κs .1 .0) u16, tt)))
       (λ κs qs bounds a g are. via 𝓤 _ (fst∗ 𝓤 _ (emp 𝓤)) (walk 𝓤 H A W mem run (κs .0) (κs .1 .0) (qs .0) (qs .1 .0) (a .0) (a .1 .0) C Λ (are .0) (are .1 .0)))
 
 new-meets : {M : Type 1} (𝓤 : URA M) (H : Heap 𝓤) (A : Atoms 𝓤) → Given 𝓤 H A → (mem : Memory → SProp 𝓤) (run : Routine → Fun 𝓤) (𝓣 : Tables 𝓤 H)

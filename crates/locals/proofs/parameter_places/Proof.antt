@@ -9,6 +9,8 @@ parameter-places-spec =
     tie.close
     (tie.spec
     (λ c κs. search needs)
-    (λ c κs. let u = c .before .before .before .before .before .pre .0 in (record { types = _; are = c .before .parameters .ensures u }, (c .before .before .before .before .before .pre .1, unit-short u)))
+    (λ c κs. let start = c .before .before .before .before .before in
+    let u = start .pre .0 in
+    (record { types = _; are = c .before .parameters .ensures u }, (start .pre .1, unit-short u)))
     (λ c. search needs)
     (λ c. record { are = λ p. c .before .before .places-of .ensures (record { types = _; are = c .before .before .before .before .parameters .ensures p }) }))

@@ -13,12 +13,19 @@ push-struct-spec =
     (λ c κs. types-at (c .before .before .pre .1 .0))
     (λ c κs. list-short (c .end-of-types .ensures) (c .before .before .before .pre .1 .0) (c .before .before .before .pre .1 .1))
     (λ c. search needs)
-    (λ c. omega (arith, struct-short (c .before .end-of-types .ensures) (c .materialized-size .ensures) (c .before .before .before .before .pre .1 .0) (c .before .before .before .before .pre .1 .1)))
-    (λ c. struct-over (c .before .before .end-of-types .ensures) (c .before .materialized-size .ensures) (c .before .before .before .before .before .pre .0) (c .if1 .taken))
+    (λ c. let start = c .before .before .before .before in
+    omega (arith, struct-short (c .before .end-of-types .ensures) (c .materialized-size .ensures) (start .pre .1 .0) (start .pre .1 .1)))
+    (λ c. let start = c .before .before .before .before .before in
+    struct-over (c .before .before .end-of-types .ensures) (c .before .materialized-size .ensures) (start .pre .0) (c .if1 .taken))
     (λ c. search needs)
     (λ c. search needs)
     (λ c. search needs)
-    (λ c κs. struct-room (c .before .before .before .end-of-types .ensures) (c .before .before .materialized-size .ensures) (c .before .before .before .before .before .before .pre .1 .0) (omega (arith, free-long (c .before .before .before .before .before .before .args .area .now) (c .before .before .before .before .before .before .args .weight))))
+    (λ c κs. let start = c .before .before .before .before .before .before in
+    struct-room (c .before .before .before .end-of-types .ensures) (c .before .before .materialized-size .ensures) (start .pre .1 .0)
+    (omega (arith, free-long (start .args .area .now) (start .args .weight))))
     (λ c κs. search needs)
     (λ c. search needs)
-    (λ c. struct-pushed (c .before .before .before .before .before .before .before .before .before .before .end-of-types .ensures) (c .before .before .before .before .before .before .before .before .before .materialized-size .ensures) (omega arith) (c .before .before .before .before .before .before .materialize-into .ensures) (c .before .before .seal .ensures .1) (c .before .before .seal .ensures .0)))
+    (λ c. struct-pushed (c .before .before .before .before .before .before .before .before .before .before .end-of-types .ensures)
+    (c .before .before .before .before .before .before .before .before .before .materialized-size .ensures) (omega arith)
+    (c .before .before .before .before .before .before .materialize-into .ensures) (c .before .before .seal .ensures .1)
+    (c .before .before .seal .ensures .0)))

@@ -12,8 +12,15 @@ materialize-into-spec =
     (λ c κs. search needs)
     (λ c. search needs)
     (λ c κs. search needs)
-    (λ c κs. command-room (c .before .before .before .struct-command .ensures) (c .command-length .ensures) (c .before .before .before .before .before .before .pre))
+    (λ c κs. let start = c .before .before .before .before .before .before in
+    command-room (c .before .before .before .struct-command .ensures) (c .command-length .ensures) (start .pre))
     (λ c. search needs)
-    (λ c κs. rw (copied-long (c .before .before .before .copy .ensures)) (list-room (c .before .before .before .before .before .before .before .struct-command .ensures) (c .before .before .before .before .command-length .ensures) (c .before .before .before .copy .ensures .reached) (c .before .before .before .before .before .before .before .before .before .before .pre)))
+    (λ c κs. let copy = c .before .before .before in
+    let start = copy .before .before .before .before .before .before .before in
+    rw (copied-long (copy .copy .ensures))
+    (list-room (copy .before .before .before .before .struct-command .ensures) (copy .before .command-length .ensures) (copy .copy .ensures .reached)
+    (start .pre)))
     (λ c. search needs)
-    (λ c. materialized-into (c .before .before .before .before .before .before .before .before .before .before .struct-command .ensures) (c .before .before .before .before .before .before .before .command-length .ensures) (c .before .before .before .before .before .before .copy .ensures) (c .before .before .copy2 .ensures)))
+    (λ c. materialized-into (c .before .before .before .before .before .before .before .before .before .before .struct-command .ensures)
+    (c .before .before .before .before .before .before .before .command-length .ensures)
+    (c .before .before .before .before .before .before .copy .ensures) (c .before .before .copy2 .ensures)))

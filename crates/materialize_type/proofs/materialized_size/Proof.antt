@@ -6,4 +6,10 @@ use Rattle.materialize_type.proofs.materialized_size.Statement.{stateme
 use Rattle.materialize_type.proofs.materialized_size.Tie as tie
 
 pub materialized-size-spec : {M : Type 1} → statement M
-materialized-size-spec = tie.close (tie.spec (λ c κs. search needs) (λ c. search needs) (λ c. omega (arith, length-short (c .command-length .ensures))) (λ c. materialized-size (c .command-length .ensures)))
+materialized-size-spec =
+    tie.close
+    (tie.spec
+    (λ c κs. search needs)
+    (λ c. search needs)
+    (λ c. omega (arith, length-short (c .command-length .ensures)))
+    (λ c. materialized-size (c .command-length .ensures)))

@@ -20,6 +20,16 @@ cast-spec =
     (λ c κs. search operands)
     (λ c κs. search operands)
     (λ c. search needs)
-    (λ c. record { steps = λ t i. pop-then (c .before .before .before .before .before .before .before .before .before .before .peek .ensures) (c .before .before .before .before .before .before .before .before .top .given .1) (λ u p. check-then _ _ (sym (c .before .before .before .before .before .is-integer .ensures (operand p)) ∙ c .before .before .before .before .if1 .taken) (push-leaf (c .before .before .push-leaf .ensures) i)) })
+    (λ c. let top = c .before .before .before .before .before .before .before .before in
+    record {
+      steps = λ t i. pop-then (top .before .before .peek .ensures) (top .top .given .1)
+          (λ u p. check-then _ _
+          (sym (c .before .before .before .before .before .is-integer .ensures (operand p)) ∙ c .before .before .before .before .if1 .taken)
+          (push-leaf (c .before .before .push-leaf .ensures) i));
+    })
     (λ c. search needs)
-    (λ c. record { steps = λ t i. pop-then (c .before .before .before .before .before .before .peek .ensures) (c .before .before .before .before .top .given .1) (λ u p. check-bad _ (sym (c .before .is-integer .ensures (operand p)) ∙ c .if1 .left)) }))
+    (λ c. let top = c .before .before .before .before in
+    record {
+      steps = λ t i. pop-then (top .before .before .peek .ensures) (top .top .given .1)
+          (λ u p. check-bad _ (sym (c .before .is-integer .ensures (operand p)) ∙ c .if1 .left));
+    }))

@@ -8,6 +8,10 @@ use borrow.Author.Needs.{needs}
 use Rattle.operand_steps.proofs.freeze_ref.Statement.{statement}
 use Rattle.operand_steps.proofs.freeze_ref.Tie as tie
 
+-- back from `top` to the function's entry
+abbrev entry : tie.After-top → tie.Start
+entry c = c .before .before .before .before .before
+
 pub freeze-ref-spec : {M : Type 1} → statement M
 unfolding step.freezeRef
 freeze-ref-spec =
@@ -21,8 +25,18 @@ freeze-ref-spec =
     (λ c κs. search operands)
     (λ c. search needs)
     (λ c. search needs)
-    (λ c. pop-then (c .before .before .before .before .before .before .peek .ensures) (c .before .before .before .before .top .given .1) (λ t p. look-bad _ (rw (no-mutable (c .before .referent-at .ensures) p (c .match2 .keys2)))))
-    (λ c. omega (arith, c .before .before .before .before .before .before .before .before .before .before .before .pre .small, top-room (c .before .before .before .before .before .before .before .before .before .before .before .pre) (c .before .before .before .before .before .before .before .before .peek .ensures) (c .before .before .before .before .before .before .top .given .1) .1))
-    (λ c κs. (search operands, top-room (c .before .before .before .before .before .before .before .before .before .before .before .pre) (c .before .before .before .before .before .before .before .before .peek .ensures) (c .before .before .before .before .before .before .top .given .1)))
+    (λ c. let top = c .before .before .before .before in
+    pop-then (top .before .before .peek .ensures) (top .top .given .1)
+    (λ t p. look-bad _ (rw (no-mutable (c .before .referent-at .ensures) p (c .match2 .keys2)))))
+    (λ c. let top = c .before .before .before .before .before .before in
+    let start = entry top in
+    omega (arith, start .pre .small, top-room (start .pre) (top .before .before .peek .ensures) (top .top .given .1) .1))
+    (λ c κs. let top = c .before .before .before .before .before .before in
+    let start = entry top in
+    (search operands, top-room (start .pre) (top .before .before .peek .ensures) (top .top .given .1)))
     (λ c. search needs)
-    (λ c. pop-then (c .before .before .before .before .before .before .before .before .before .before .before .peek .ensures) (c .before .before .before .before .before .before .before .before .before .top .given .1) (λ t p. let n = refers-mutably (c .before .before .before .before .before .before .referent-at .ensures) p (c .before .before .before .before .enum-told2 .given .1) in look-then _ (rw (mutable-is n refl)) (push-frozen n (c .before .before .push-retagged .ensures)))))
+    (λ c. let told = c .before .before .before .before in
+    let top = told .before .before .before .before .before in
+    pop-then (top .before .before .peek .ensures) (top .top .given .1)
+    (λ t p. let n = refers-mutably (told .before .before .referent-at .ensures) p (told .enum-told2 .given .1) in
+    look-then _ (rw (mutable-is n refl)) (push-frozen n (c .before .before .push-retagged .ensures)))))

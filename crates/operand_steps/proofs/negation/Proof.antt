@@ -19,5 +19,14 @@ negation-spec =
     (λ c. search needs)
     (λ c. nested _ _ _ (pop-none (c .before .before .peek .ensures) _ (c .enum-told .given .1)))
     (λ c κs. search operands)
-    (λ c. nested _ _ _ (pop-then (c .before .before .before .before .before .peek .ensures) (c .before .before .before .top .given .1) (λ t p. check-then _ _ (sym (c .before .is-leaf .ensures (operand p) Bool′ is-bool) ∙ c .if1 .taken) (push-top (c .before .before .before .before .before .before .before .pre) (c .before .before .before .before .before .peek .ensures) (c .before .before .before .top .given .1) p (sym (leaf-type p (c .before .is-leaf .ensures) (c .if1 .taken) is-bool))))))
-    (λ c. nested _ _ _ (pop-then (c .before .before .before .before .before .peek .ensures) (c .before .before .before .top .given .1) (λ t p. check-bad _ (sym (c .before .is-leaf .ensures (operand p) Bool′ is-bool) ∙ c .if1 .left)))))
+    (λ c. let top = c .before .before .before in
+    let peek = top .before .before in
+    let start = peek .before .before in
+    nested _ _ _
+    (pop-then (peek .peek .ensures) (top .top .given .1)
+    (λ t p. check-then _ _ (sym (c .before .is-leaf .ensures (operand p) Bool′ is-bool) ∙ c .if1 .taken)
+    (push-top (start .pre) (peek .peek .ensures) (top .top .given .1) p (sym (leaf-type p (c .before .is-leaf .ensures) (c .if1 .taken) is-bool))))))
+    (λ c. let top = c .before .before .before in
+    nested _ _ _
+    (pop-then (top .before .before .peek .ensures) (top .top .given .1)
+    (λ t p. check-bad _ (sym (c .before .is-leaf .ensures (operand p) Bool′ is-bool) ∙ c .if1 .left)))))

@@ -17,5 +17,13 @@ pop-leaf-spec =
     (λ c. search needs)
     (λ c. record { steps = λ t i. pop-none (c .before .before .peek .ensures) _ (c .enum-told .given .1) })
     (λ c κs. search operands)
-    (λ c. record { steps = λ t i. pop-then (c .before .before .before .before .before .peek .ensures) (c .before .before .before .top .given .1) (λ u p. check-last _ (sym (c .before .is-leaf .ensures (operand p) t i) ∙ c .if1 .taken)) })
-    (λ c. record { steps = λ t i. pop-then (c .before .before .before .before .before .peek .ensures) (c .before .before .before .top .given .1) (λ u p. check-last-bad (sym (c .before .is-leaf .ensures (operand p) t i) ∙ c .if1 .left)) }))
+    (λ c. let top = c .before .before .before in
+    record {
+      steps = λ t i. pop-then (top .before .before .peek .ensures) (top .top .given .1)
+          (λ u p. check-last _ (sym (c .before .is-leaf .ensures (operand p) t i) ∙ c .if1 .taken));
+    })
+    (λ c. let top = c .before .before .before in
+    record {
+      steps = λ t i. pop-then (top .before .before .peek .ensures) (top .top .given .1)
+          (λ u p. check-last-bad (sym (c .before .is-leaf .ensures (operand p) t i) ∙ c .if1 .left));
+    }))

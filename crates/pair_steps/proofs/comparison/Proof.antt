@@ -21,8 +21,20 @@ comparison-spec =
     (λ c κs. search operands)
     (λ c κs. search operands)
     (λ c. search needs)
-    (λ c. two-then (c .before .before .before .before .before .before .before .before .before .before .before .before .before .peek-two .ensures) (c .before .before .before .before .before .before .before .before .before .before .before .top .given .1) (λ t u p q. check-then _ _ (yes-both (c .before .before .before .before .before .before .before .before .is-integer .ensures (operand p)) (c .before .before .before .before .before .before .before .if1 .taken) (c .before .before .before .before .before .same-type .ensures (span p) (operand q)) (c .before .before .before .before .if2 .taken)) (push-leaf (c .before .before .push-leaf .ensures) is-bool)))
+    (λ c. let top = c .before .before .before .before .before .before .before .before .before .before .before in
+    two-then (top .before .before .peek-two .ensures) (top .top .given .1)
+    (λ t u p q. check-then _ _
+    (yes-both (c .before .before .before .before .before .before .before .before .is-integer .ensures (operand p))
+    (c .before .before .before .before .before .before .before .if1 .taken)
+    (c .before .before .before .before .before .same-type .ensures (span p) (operand q)) (c .before .before .before .before .if2 .taken))
+    (push-leaf (c .before .before .push-leaf .ensures) is-bool)))
     (λ c. search needs)
-    (λ c. two-then (c .before .before .before .before .before .before .before .before .before .peek-two .ensures) (c .before .before .before .before .before .before .before .top .given .1) (λ t u p q. check-bad _ (no-right (c .before .before .before .before .is-integer .ensures (operand p)) (c .before .before .before .if1 .taken) (c .before .same-type .ensures (span p) (operand q)) (c .if2 .left))))
+    (λ c. let top = c .before .before .before .before .before .before .before in
+    two-then (top .before .before .peek-two .ensures) (top .top .given .1)
+    (λ t u p q. check-bad _
+    (no-right (c .before .before .before .before .is-integer .ensures (operand p)) (c .before .before .before .if1 .taken)
+    (c .before .same-type .ensures (span p) (operand q)) (c .if2 .left))))
     (λ c. search needs)
-    (λ c. two-then (c .before .before .before .before .before .before .peek-two .ensures) (c .before .before .before .before .top .given .1) (λ t u p q. check-bad _ (no-left _ (c .before .is-integer .ensures (operand p)) (c .if1 .left)))))
+    (λ c. let top = c .before .before .before .before in
+    two-then (top .before .before .peek-two .ensures) (top .top .given .1)
+    (λ t u p q. check-bad _ (no-left _ (c .before .is-integer .ensures (operand p)) (c .if1 .left)))))

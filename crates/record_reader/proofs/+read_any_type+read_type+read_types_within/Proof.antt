@@ -95,13 +95,16 @@ read-any-type-μ-loop s at levels p₀ left₀ p left = left
 
 -- once the command's shape is told, the rest of the type is read by it
 shaped :
-    (t : ℕ) (c : read-any-type-lts.After-type-shape (claims t) (read-any-type-at t) read-any-type.Post read-any-type-Inv-loop read-any-type-μ-loop) (head : Head) {shape : TypeShape} →
-    c .type-shape .result ≡ shape →
-    restTo (typeWithin (commandsOf head) (c .before .before .before .before .loop .left - 1)) (c .before .before .before .before .loop .p) shape (c .before .before .before .before .before .before .args .s .now) (c .before .before .before .before .loop .p + 1)
-    ≡ readTo (typeWithin (commandsOf head) (c .before .before .before .before .before .before .args .levels) (c .before .before .before .before .before .before .args .s .now) (c .before .before .before .before .before .before .args .at))
+    (t : ℕ) (c : read-any-type-lts.After-type-shape (claims t) (read-any-type-at t) read-any-type.Post read-any-type-Inv-loop read-any-type-μ-loop)
+    (head : Head) {shape : TypeShape} → c .type-shape .result ≡ shape →
+    let l = c .before .before .before .before .loop in
+    let a = c .before .before .before .before .before .before .args in
+    restTo (typeWithin (commandsOf head) (l .left - 1)) (l .p) shape (a .s .now) (l .p + 1)
+    ≡ readTo (typeWithin (commandsOf head) (a .levels) (a .s .now) (a .at))
 shaped t c head e =
-    type-shaped head _ _ (c .before .before .before .loop-test .taken) (c .before .before .before .before .loop .left) (c .before .before .if1 .left) (sym e ∙ c .type-shape .ensures)
-    ∙ sym (c .before .before .before .before .loop .inv .1 head)
+    let l = c .before .before .before .before .loop in
+    type-shaped head _ _ (c .before .before .before .loop-test .taken) (l .left) (c .before .before .if1 .left) (sym e ∙ c .type-shape .ensures)
+    ∙ sym (l .inv .1 head)
 
 abbrev read-types-within-Inv-loop : read-types-within-lts.InvT-loop
 read-types-within-Inv-loop s at levels count next₀ i₀ next i =
@@ -137,12 +140,18 @@ pub +read-any-type+read-type+read-types-within-spec : {M : Type 1} → statement
     (λ c κs. search needs)
     (λ c. search needs)
     (λ c. search needs)
-    (λ c head. refused (skip 2) (λ _. counted (typeWithin (commandsOf head) (c .before .before .before .before .before .before .before .before .before .loop .left - 1))) _ _ (c .before .before .skip-bytes2 .ensures) (c .before .match2 .keys2)
-    ∙ shaped t (c .before .before .before .before .before) head (c .before .before .before .enum-told4 .given .1))
+    (λ c head. let told = c .before .before .before in
+    let turn = told .before .before .before .before .before .before in
+    refused (skip 2) (λ _. counted (typeWithin (commandsOf head) (turn .loop .left - 1))) _ _ (c .before .before .skip-bytes2 .ensures)
+    (c .before .match2 .keys2) ∙ shaped t (told .before .before) head (told .enum-told4 .given .1))
     (λ c. search needs)
     (λ c κs. search needs)
-    (λ c head. sym (went-on (skip 2) (λ _. counted (typeWithin (commandsOf head) (c .before .before .before .before .before .before .before .before .before .before .before .loop .left - 1))) _ _ _ (sym (c .before .before .before .before .skip-bytes2 .ensures) ∙ c .before .before .handle .given .1) (λ _. sym (c .read-types-within .ensures head)))
-    ∙ shaped t (c .before .before .before .before .before .before .before) head (c .before .before .before .before .before .enum-told4 .given .1))
+    (λ c head. let handle = c .before .before in
+    let told = handle .before .before .before in
+    let turn = told .before .before .before .before .before .before in
+    sym (went-on (skip 2) (λ _. counted (typeWithin (commandsOf head) (turn .loop .left - 1))) _ _ _
+    (sym (handle .before .before .skip-bytes2 .ensures) ∙ handle .handle .given .1) (λ _. sym (c .read-types-within .ensures head)))
+    ∙ shaped t (told .before .before) head (told .enum-told4 .given .1))
     (λ c. search needs)
     (λ c head. shaped t (c .before .before) head (c .enum-told6 .given .1))
     (λ c head. type-short head _ _ _ (c .loop-test .left) ∙ sym (c .before .loop .inv .1 head)))
@@ -172,11 +181,24 @@ pub +read-any-type+read-type+read-types-within-spec : {M : Type 1} → statement
     (λ c κs. search needs)
     (λ c. search needs)
     (λ c. search needs)
-    (λ c head. let l = c .before .before .before .before .loop in
-    many-refused (typeWithin (commandsOf head) (c .before .before .before .before .before .before .before .before .args .levels)) _ _ (l .i) (l .next) (c .before .before .before .loop-test .taken) (c .before .before .read-type .ensures head) (c .before .match .keys2) ∙ sym (l .inv .1 head))
-    (λ c. omega (arith, c .before .before .before .before .before .before .shared-slice-known2 .given (c .before .before .before .before .before .before .before .before .before .args .at)))
+    (λ c head. let turn = c .before .before .before .before in
+    let start = turn .before .before .before .before in
+    let l = turn .loop in
+    many-refused (typeWithin (commandsOf head) (start .args .levels)) _ _ (l .i) (l .next) (c .before .before .before .loop-test .taken)
+    (c .before .before .read-type .ensures head) (c .before .match .keys2) ∙ sym (l .inv .1 head))
+    (λ c. let known = c .before .before .before .before .before .before in
+    let start = known .before .before .before in
+    omega (arith, known .shared-slice-known2 .given (start .args .at)))
     (λ c. search needs)
-    (λ c. let l = c .before .before .before .before .before .loop in
-    (omega arith, λ head. l .inv .1 head ∙ many-next (typeWithin (commandsOf head) (c .before .before .before .before .before .before .before .before .before .args .levels)) _ _ (l .i) (l .next) (c .before .before .before .before .loop-test .taken) _ (sym (c .before .before .before .read-type .ensures head) ∙ c .before .one .given .1)))
-    (λ c head. let l = c .before .loop in
-    sym (l .inv .1 head ∙ many-done (typeWithin (commandsOf head) (c .before .before .before .before .before .args .levels)) _ _ (l .i) (l .next) (c .loop-test .left)))
+    (λ c. let turn = c .before .before .before .before .before in
+    let start = turn .before .before .before .before in
+    let l = turn .loop in (
+      omega arith,
+      λ head. l .inv .1 head
+          ∙ many-next (typeWithin (commandsOf head) (start .args .levels)) _ _ (l .i) (l .next) (c .before .before .before .before .loop-test .taken) _
+          (sym (c .before .before .before .read-type .ensures head) ∙ c .before .one .given .1),
+    ))
+    (λ c head. let turn = c .before in
+    let start = turn .before .before .before .before in
+    let l = turn .loop in
+    sym (l .inv .1 head ∙ many-done (typeWithin (commandsOf head) (start .args .levels)) _ _ (l .i) (l .next) (c .loop-test .left)))

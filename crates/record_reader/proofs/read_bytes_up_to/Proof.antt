@@ -18,6 +18,10 @@ Inv-loop s at most count next₀ i₀ next i = (i ≤ count) × (readTo (counted
 abbrev μ-loop : tie.MeasureT-loop
 μ-loop s at most count next₀ i₀ next i = count - i
 
+-- back from `loop` to the function's entry
+abbrev entry : tie.At-loop Inv-loop μ-loop → tie.Start Inv-loop μ-loop
+entry c = c .before .before .before
+
 pub read-bytes-up-to-spec : {M : Type 1} → statement M
 read-bytes-up-to-spec =
     tie.close
@@ -28,11 +32,31 @@ read-bytes-up-to-spec =
     (λ c. search needs)
     (λ c. search needs)
     (λ c. (omega arith, counted-starts (byteUpTo (c .before .before .args .most)) _ _ (c .before .if1 .left)))
-    (λ c. let l = c .before .before .loop in many-refused (byteUpTo (c .before .before .before .before .before .args .most)) _ _ (l .i) (l .next) (c .before .loop-test .taken) (up-to-short _ _ (l .next) (c .if2 .taken)) refl ∙ sym (l .inv .1))
+    (λ c. let turn = c .before .before in
+    let start = entry turn in
+    let l = turn .loop in
+    many-refused (byteUpTo (start .args .most)) _ _ (l .i) (l .next) (c .before .loop-test .taken) (up-to-short _ _ (l .next) (c .if2 .taken)) refl
+    ∙ sym (l .inv .1))
     (λ c. search needs)
-    (λ c. let l = c .before .before .before .before .loop in many-refused (byteUpTo (c .before .before .before .before .before .before .before .args .most)) _ _ (l .i) (l .next) (c .before .before .before .loop-test .taken) (up-to-over _ _ (l .next) (c .before .before .if2 .left) (c .if3 .taken)) refl ∙ sym (l .inv .1))
+    (λ c. let turn = c .before .before .before .before in
+    let start = entry turn in
+    let l = turn .loop in
+    many-refused (byteUpTo (start .args .most)) _ _ (l .i) (l .next) (c .before .before .before .loop-test .taken)
+    (up-to-over _ _ (l .next) (c .before .before .if2 .left) (c .if3 .taken)) refl ∙ sym (l .inv .1))
     (λ c. omega arith)
-    (λ c. omega (arith, c .before .before .before .before .before .shared-slice-known .given (c .before .before .before .before .before .before .before .args .at)))
+    (λ c. let known = c .before .before .before .before .before in
+    let start = known .before .before in
+    omega (arith, known .shared-slice-known .given (start .args .at)))
     (λ c. omega arith)
-    (λ c. let l = c .before .before .before .before .loop in (omega arith, l .inv .1 ∙ many-next (byteUpTo (c .before .before .before .before .before .before .before .args .most)) _ _ (l .i) (l .next) (c .before .before .before .loop-test .taken) _ (up-to-next _ _ (l .next) (c .before .before .if2 .left) (c .if3 .left))))
-    (λ c. let l = c .before .loop in sym (l .inv .1 ∙ many-done (byteUpTo (c .before .before .before .before .args .most)) _ _ (l .i) (l .next) (c .loop-test .left))))
+    (λ c. let turn = c .before .before .before .before in
+    let start = entry turn in
+    let l = turn .loop in (
+      omega arith,
+      l .inv .1
+          ∙ many-next (byteUpTo (start .args .most)) _ _ (l .i) (l .next) (c .before .before .before .loop-test .taken) _
+          (up-to-next _ _ (l .next) (c .before .before .if2 .left) (c .if3 .left)),
+    ))
+    (λ c. let turn = c .before in
+    let start = entry turn in
+    let l = turn .loop in
+    sym (l .inv .1 ∙ many-done (byteUpTo (start .args .most)) _ _ (l .i) (l .next) (c .loop-test .left))))

@@ -14,11 +14,19 @@ read-struct-definition-spec =
     (λ c. search needs)
     (λ c. search needs)
     (λ c head. definition-refused (commandsOf head) _ _ (c .before .before .skip-bytes .ensures) (c .before .match .keys2))
-    (λ c head. kind-refused (commandsOf head) _ _ (sym (c .before .before .before .before .skip-bytes .ensures) ∙ c .before .before .handle .given .1) (up-to-short 1 _ _ (c .if1 .taken)) refl)
+    (λ c head. let handle = c .before .before in
+    kind-refused (commandsOf head) _ _ (sym (handle .before .before .skip-bytes .ensures) ∙ handle .handle .given .1) (up-to-short 1 _ _ (c .if1 .taken))
+    refl)
     (λ c. search needs)
-    (λ c head. kind-refused (commandsOf head) _ _ (sym (c .before .before .before .before .before .before .skip-bytes .ensures) ∙ c .before .before .before .before .handle .given .1) (up-to-over 1 _ _ (c .before .before .if1 .left) (c .if2 .taken)) refl)
+    (λ c head. let handle = c .before .before .before .before in
+    kind-refused (commandsOf head) _ _ (sym (handle .before .before .skip-bytes .ensures) ∙ handle .handle .given .1)
+    (up-to-over 1 _ _ (c .before .before .if1 .left) (c .if2 .taken)) refl)
     (λ c. search needs)
-    (λ c head. kind-native (commandsOf head) _ _ (sym (c .before .before .before .before .before .before .before .skip-bytes .ensures) ∙ c .before .before .before .before .before .handle .given .1) (c .before .before .before .if1 .left) (c .if3 .taken))
+    (λ c head. let handle = c .before .before .before .before .before in
+    kind-native (commandsOf head) _ _ (sym (handle .before .before .skip-bytes .ensures) ∙ handle .handle .given .1)
+    (c .before .before .before .if1 .left) (c .if3 .taken))
     (λ c. search needs)
     (λ c κs. search needs)
-    (λ c head. kind-declared (commandsOf head) _ _ (sym (c .before .before .before .before .before .before .before .before .skip-bytes .ensures) ∙ c .before .before .before .before .before .before .handle .given .1) (c .before .before .before .before .if1 .left) (c .before .if3 .left) (c .before .before .if2 .left) (c .read-types .ensures head)))
+    (λ c head. let handle = c .before .before .before .before .before .before in
+    kind-declared (commandsOf head) _ _ (sym (handle .before .before .skip-bytes .ensures) ∙ handle .handle .given .1)
+    (c .before .before .before .before .if1 .left) (c .before .if3 .left) (c .before .before .if2 .left) (c .read-types .ensures head)))

@@ -7,4 +7,10 @@ use Rattle.record_views.proofs.type_list.Statement.{statement}
 use Rattle.record_views.proofs.type_list.Tie as tie
 
 pub type-list-spec : {M : Type 1} → statement M
-type-list-spec = tie.close (tie.spec (λ c. search needs) (λ c. search needs) (λ c κs. search needs) (λ c. list-read (λ i. omega (arith, c .before .shared-slice-known2 .given i)) (c .before .before .before .args .at) refl (c .wide .ensures .0)))
+type-list-spec =
+    tie.close
+    (tie.spec
+    (λ c. search needs)
+    (λ c. search needs)
+    (λ c κs. search needs)
+    (λ c. list-read (λ i. omega (arith, c .before .shared-slice-known2 .given i)) (c .before .before .before .args .at) refl (c .wide .ensures .0)))

@@ -26,4 +26,12 @@ u64-at-spec =
     (λ c. search needs)
     (λ c. search needs)
     (λ c. search needs)
-    (λ c. omega (arith, four-u16 (c .before .before .before .before .before .args .s .now) (c .before .before .before .before .before .args .at), c .before .before .before .u16-at .ensures, c .before .before .u16-at2 .ensures, c .before .u16-at3 .ensures, c .u16-at4 .ensures)))
+    (λ c. let start = c .before .before .before .before .before in
+    omega (
+      arith,
+      four-u16 (start .args .s .now) (start .args .at),
+      c .before .before .before .u16-at .ensures,
+      c .before .before .u16-at2 .ensures,
+      c .before .u16-at3 .ensures,
+      c .u16-at4 .ensures,
+    )))

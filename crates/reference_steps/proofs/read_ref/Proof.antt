@@ -9,6 +9,13 @@ use borrow.Author.Needs.{needs}
 use Rattle.reference_steps.proofs.read_ref.Statement.{statement}
 use Rattle.reference_steps.proofs.read_ref.Tie as tie
 
+-- back from `operand` to `top`, and from `top` to the function's entry
+abbrev to-top : tie.After-operand → tie.After-top
+to-top c = c .before .before .before .before .before
+
+abbrev entry : tie.After-top → tie.Start
+entry c = c .before .before .before .before .before .before .before
+
 pub read-ref-spec : {M : Type 1} → statement M
 unfolding step.readRef
 read-ref-spec =
@@ -23,13 +30,33 @@ read-ref-spec =
     (λ c. search needs)
     (λ c. search needs)
     (λ c. search needs)
-    (λ c p. pop-then (c .before .before .before .before .before .before .before .peek .ensures) (c .before .before .before .before .before .top .given .1) (λ t h. look-bad _ (rw (no-inner (c .before .before .inner-at .ensures) h (c .enum-told2 .given .1)))))
+    (λ c p. let top = c .before .before .before .before .before in
+    pop-then (top .before .before .peek .ensures) (top .top .given .1)
+    (λ t h. look-bad _ (rw (no-inner (c .before .before .inner-at .ensures) h (c .enum-told2 .given .1)))))
     (λ c κs. search references)
     (λ c. search needs)
     (λ c. search needs)
-    (λ c. omega (arith, c .before .before .before .before .before .before .before .before .before .before .before .before .before .before .before .before .before .before .pre .0 .small, top-room (c .before .before .before .before .before .before .before .before .before .before .before .before .before .before .before .before .before .before .pre .0) (c .before .before .before .before .before .before .before .before .before .before .before .before .before .peek .ensures) (c .before .before .before .before .before .before .before .before .before .before .before .top .given .1) .1))
-    (λ c κs. inner-room (c .before .before .before .before .before .before .before .before .before .before .before .before .before .before .before .before .before .before .pre .0) (c .before .before .before .before .before .before .before .before .before .before .before .before .before .peek .ensures) (c .before .before .before .before .before .before .before .before .before .before .before .top .given .1) (c .before .before .before .before .before .before .before .before .inner-at .ensures) (c .before .before .before .before .before .before .operand .given .1))
+    (λ c. let top = c .before .before .before .before .before .before .before .before .before .before .before in
+    let start = entry top in
+    omega (arith, start .pre .0 .small, top-room (start .pre .0) (top .before .before .peek .ensures) (top .top .given .1) .1))
+    (λ c κs. let operand = c .before .before .before .before .before .before in
+    let top = to-top operand in
+    let start = entry top in
+    inner-room (start .pre .0) (top .before .before .peek .ensures) (top .top .given .1) (operand .before .before .inner-at .ensures)
+    (operand .operand .given .1))
     (λ c. search needs)
-    (λ c p. pop-then (c .before .before .before .before .before .before .before .before .before .before .before .before .before .peek .ensures) (c .before .before .before .before .before .before .before .before .before .before .before .top .given .1) (λ t h. let n = refers-either (c .before .before .before .before .before .before .before .before .inner-at .ensures) h (c .before .before .before .before .before .before .operand .given .1) .refers in look-then _ (rw (inner-is n)) (ability-bad (c .before .before .before .check-ability .ensures p (referent n)) (c .before .status .given .1) (λ set m. check-bad _ m))))
+    (λ c p. let operand = c .before .before .before .before .before .before in
+    let top = to-top operand in
+    pop-then (top .before .before .peek .ensures) (top .top .given .1)
+    (λ t h. let n = refers-either (operand .before .before .inner-at .ensures) h (operand .operand .given .1) .refers in
+    look-then _ (rw (inner-is n))
+    (ability-bad (c .before .before .before .check-ability .ensures p (referent n)) (c .before .status .given .1) (λ set m. check-bad _ m))))
     (λ c. search needs)
-    (λ c p. pop-then (c .before .before .before .before .before .before .before .before .before .before .before .before .before .before .before .before .peek .ensures) (c .before .before .before .before .before .before .before .before .before .before .before .before .before .before .top .given .1) (λ t h. let n = refers-either (c .before .before .before .before .before .before .before .before .before .before .before .inner-at .ensures) h (c .before .before .before .before .before .before .before .before .before .operand .given .1) .refers in look-then _ (rw (inner-is n)) (ability-then (c .before .before .before .before .before .before .check-ability .ensures p (referent n)) (c .before .before .before .before .enum-told3 .given .1) (λ set m. check-then _ _ m (push-referent n (c .before .before .push-within .ensures)))))))
+    (λ c p. let told = c .before .before .before .before in
+    let operand = told .before .before .before .before .before in
+    let top = to-top operand in
+    pop-then (top .before .before .peek .ensures) (top .top .given .1)
+    (λ t h. let n = refers-either (operand .before .before .inner-at .ensures) h (operand .operand .given .1) .refers in
+    look-then _ (rw (inner-is n))
+    (ability-then (told .before .before .check-ability .ensures p (referent n)) (told .enum-told3 .given .1)
+    (λ set m. check-then _ _ m (push-referent n (c .before .before .push-within .ensures)))))))

@@ -20,9 +20,17 @@ exists-spec =
     (λ c κs. search needs)
     (λ c. search needs)
     (λ c. search needs)
-    (λ c κs. and-stacked (c .before .before .before .before .pop-leaf .ensures .steps _ is-address) (c .before .before .before .before .before .before .before .before .before .before .before .before .pre .0) (c .before .before .below .given .1) refl)
+    (λ c κs. let below = c .before .before in
+    let start = below .before .before .before .before .before .before .before .before .before .before in
+    and-stacked (below .before .before .pop-leaf .ensures .steps _ is-address) (start .pre .0) (below .below .given .1) refl)
     (λ c p q. key-bad (c .before .before .before .key-struct .ensures p q) _ (c .before .status .given .1))
     (λ c. search needs)
-    (λ c p q. key-then (c .before .before .before .before .before .before .before .key-struct .ensures p q) _ (c .before .before .before .before .before .enum-told .given .1) (λ e n. and-bad (c .before .before .before .pop-leaf .ensures .steps _ is-address) _ (c .before .status2 .given .1)))
+    (λ c p q. let told = c .before .before .before .before .before in
+    key-then (told .before .before .key-struct .ensures p q) _ (told .enum-told .given .1)
+    (λ e n. and-bad (c .before .before .before .pop-leaf .ensures .steps _ is-address) _ (c .before .status2 .given .1)))
     (λ c. search needs)
-    (λ c p q. key-then (c .before .before .before .before .before .before .before .before .before .before .before .key-struct .ensures p q) _ (c .before .before .before .before .before .before .before .before .before .enum-told .given .1) (λ e n. and-then (c .before .before .before .before .before .before .before .pop-leaf .ensures .steps _ is-address) _ (c .before .before .before .before .before .below .given .1) (push-leaf (c .before .before .push-leaf .ensures) is-bool))))
+    (λ c p q. let below = c .before .before .before .before .before in
+    let told = below .before .before .before .before in
+    key-then (told .before .before .key-struct .ensures p q) _ (told .enum-told .given .1)
+    (λ e n. and-then (below .before .before .pop-leaf .ensures .steps _ is-address) _ (below .below .given .1)
+    (push-leaf (c .before .before .push-leaf .ensures) is-bool))))

@@ -11,9 +11,13 @@ key-struct-spec =
     (tie.spec
     (λ c. search needs)
     (λ c. search needs)
-    (λ c κs. (c .before .before .before .before .before .before .before .before .pre .0, struct-types (c .before .before .before .before .before .before .before .before .pre .1 .is) (c .before .before .before .before .found2 .given .1)))
+    (λ c κs. let found = c .before .before .before .before in
+    let start = found .before .before .before .before in
+    (start .pre .0, struct-types (start .pre .1 .is) (found .found2 .given .1)))
     (λ c. search needs)
     (λ c. search needs)
     (λ c p q. key-none _ (q .is) _ (c .before .found .given .1))
-    (λ c p q. key-no _ (q .is) _ (c .before .before .before .before .before .before .before .before .found2 .given .1) (c .before .before .before .check-struct-ability .ensures p) (c .before .why .given .1))
-    (λ c p q. key-yes _ (q .is) _ (c .before .before .before .before .before .before .before .found2 .given .1) (c .before .before .check-struct-ability .ensures p) (c .enum-told .given .1)))
+    (λ c p q. let found = c .before .before .before .before .before .before .before .before in
+    key-no _ (q .is) _ (found .found2 .given .1) (c .before .before .before .check-struct-ability .ensures p) (c .before .why .given .1))
+    (λ c p q. let found = c .before .before .before .before .before .before .before in
+    key-yes _ (q .is) _ (found .found2 .given .1) (c .before .before .check-struct-ability .ensures p) (c .enum-told .given .1)))

@@ -9,6 +9,10 @@ use borrow.Author.Needs.{needs}
 use Rattle.resource_steps.proofs.move_to.Statement.{statement}
 use Rattle.resource_steps.proofs.move_to.Tie as tie
 
+-- back from `top` to `with`
+abbrev to-with : tie.After-top → tie.After-with
+to-with c = c .before .before .before .before
+
 pub move-to-spec : {M : Type 1} → statement M
 unfolding step.moveTo
 move-to-spec =
@@ -20,10 +24,33 @@ move-to-spec =
     (λ c κs. search needs)
     (λ c. search needs)
     (λ c. search needs)
-    (λ c p q. key-then (c .before .before .before .before .before .before .key-struct .ensures p q) _ (c .before .before .before .before .with .given .1) (λ e n. two-none (c .before .before .peek-two .ensures) _ (c .enum-told .given .1)))
-    (λ c κs. (first-span (c .before .before .before .before .before .before .before .before .before .before .before .before .pre .0) (c .before .before .before .before .peek-two .ensures) (c .before .before .top .given .1), struct-types (c .before .before .before .before .before .before .before .before .key-struct .ensures (c .before .before .before .before .before .before .before .before .before .before .before .before .pre .1 .0) (c .before .before .before .before .before .before .before .before .before .before .before .before .pre .1 .1) .is) (c .before .before .before .before .before .before .with .given .1)))
-    (λ c κs. second-type (c .before .before .before .before .before .before .before .before .before .before .before .before .before .before .pre .0) (c .before .before .before .before .before .before .peek-two .ensures) (c .before .before .before .before .top .given .1))
-    (λ c p q. key-then (c .before .before .before .before .before .before .before .before .before .before .before .before .key-struct .ensures p q) _ (c .before .before .before .before .before .before .before .before .before .before .with .given .1) (λ e n. two-then (c .before .before .before .before .before .before .before .before .peek-two .ensures) (c .before .before .before .before .before .before .top .given .1) (λ t u h g. check-then _ _ (struct-same n (c .before .before .before .struct-is .ensures) h (c .before .before .if1 .taken)) (check-last _ (sym (c .before .is-signer-reference .ensures .is (operand g)) ∙ c .if2 .taken)))))
+    (λ c p q. let with = c .before .before .before .before in
+    key-then (with .before .before .key-struct .ensures p q) _ (with .with .given .1)
+    (λ e n. two-none (c .before .before .peek-two .ensures) _ (c .enum-told .given .1)))
+    (λ c κs. let top = c .before .before in
+    let with = to-with top in
+    let start = with .before .before .before .before .before .before in (
+      first-span (start .pre .0) (top .before .before .peek-two .ensures) (top .top .given .1),
+      struct-types (with .before .before .key-struct .ensures (start .pre .1 .0) (start .pre .1 .1) .is) (with .with .given .1),
+    ))
+    (λ c κs. let top = c .before .before .before .before in
+    let start = top .before .before .before .before .before .before .before .before .before .before in
+    second-type (start .pre .0) (top .before .before .peek-two .ensures) (top .top .given .1))
+    (λ c p q. let top = c .before .before .before .before .before .before in
+    let with = to-with top in
+    key-then (with .before .before .key-struct .ensures p q) _ (with .with .given .1)
+    (λ e n. two-then (top .before .before .peek-two .ensures) (top .top .given .1)
+    (λ t u h g. check-then _ _ (struct-same n (c .before .before .before .struct-is .ensures) h (c .before .before .if1 .taken))
+    (check-last _ (sym (c .before .is-signer-reference .ensures .is (operand g)) ∙ c .if2 .taken)))))
     (λ c p q. key-bad (c .before .before .before .key-struct .ensures p q) _ (c .before .status .given .1))
-    (λ c p q. key-then (c .before .before .before .before .before .before .before .before .before .before .before .before .key-struct .ensures p q) _ (c .before .before .before .before .before .before .before .before .before .before .with .given .1) (λ e n. two-then (c .before .before .before .before .before .before .before .before .peek-two .ensures) (c .before .before .before .before .before .before .top .given .1) (λ t u h g. check-then _ _ (struct-same n (c .before .before .before .struct-is .ensures) h (c .before .before .if1 .taken)) (check-last-bad (sym (c .before .is-signer-reference .ensures .is (operand g)) ∙ c .if2 .left)))))
-    (λ c p q. key-then (c .before .before .before .before .before .before .before .before .before .before .key-struct .ensures p q) _ (c .before .before .before .before .before .before .before .before .with .given .1) (λ e n. two-then (c .before .before .before .before .before .before .peek-two .ensures) (c .before .before .before .before .top .given .1) (λ t u h g. check-bad _ (struct-same n (c .before .struct-is .ensures) h (c .if1 .left))))))
+    (λ c p q. let top = c .before .before .before .before .before .before in
+    let with = to-with top in
+    key-then (with .before .before .key-struct .ensures p q) _ (with .with .given .1)
+    (λ e n. two-then (top .before .before .peek-two .ensures) (top .top .given .1)
+    (λ t u h g. check-then _ _ (struct-same n (c .before .before .before .struct-is .ensures) h (c .before .before .if1 .taken))
+    (check-last-bad (sym (c .before .is-signer-reference .ensures .is (operand g)) ∙ c .if2 .left)))))
+    (λ c p q. let top = c .before .before .before .before in
+    let with = to-with top in
+    key-then (with .before .before .key-struct .ensures p q) _ (with .with .given .1)
+    (λ e n. two-then (top .before .before .peek-two .ensures) (top .top .given .1)
+    (λ t u h g. check-bad _ (struct-same n (c .before .struct-is .ensures) h (c .if1 .left))))))

@@ -17,7 +17,8 @@ below-7 b h =
 
 past-12 : (b : ℕ) → 12 < b → Leaf ≡ shapeOf b
 past-12 b h =
-    sym (List·getD-eq-default (Leaf ∷ Leaf ∷ Leaf ∷ Leaf ∷ Leaf ∷ Leaf ∷ Leaf ∷ Vector ∷ Struct ∷ StructInstantiation ∷ Reference ∷ MutableReference ∷ TypeParameter ∷ []) Leaf h)
+    sym (List·getD-eq-default
+    (Leaf ∷ Leaf ∷ Leaf ∷ Leaf ∷ Leaf ∷ Leaf ∷ Leaf ∷ Vector ∷ Struct ∷ StructInstantiation ∷ Reference ∷ MutableReference ∷ TypeParameter ∷ []) Leaf h)
 
 pub shape-of-spec : {M : Type 1} → statement M
 shape-of-spec =

@@ -33,9 +33,15 @@ verify-spec =
     (p, (b .ordered, b .within)))
     (λ c. search needs)
     (λ c κs. search needs)
-    (λ c p. c .refusal-at .ensures ∙ blocks-refused (c .before .before .before .before .before .before .before .loop .inv p) (c .before .before .before .before .before .block-at .ensures p .is) (rw (c .before .before .status .given .1) at (c .before .before .before .before .verify-block .ensures p)))
+    (λ c p. let status = c .before .before in
+    let turn = status .before .before .before .before .before in
+    c .refusal-at .ensures
+    ∙ blocks-refused (turn .loop .inv p) (status .before .before .before .block-at .ensures p .is)
+    (rw (status .status .given .1) at (status .before .before .verify-block .ensures p)))
     enum-told
     (λ c. omega arith)
     (λ c. omega arith)
-    (λ c p. blocks-next (c .before .before .before .before .before .loop .inv p) (c .before .before .before .block-at .ensures p .is) (rw (c .enum-told .given .1) at (c .before .before .verify-block .ensures p)))
+    (λ c p. let turn = c .before .before .before .before .before in
+    blocks-next (turn .loop .inv p) (c .before .before .before .block-at .ensures p .is)
+    (rw (c .enum-told .given .1) at (c .before .before .verify-block .ensures p)))
     (λ c p. blocks-done (c .before .loop .inv p) (omega (arith, table-count (blocks-in p), c .loop-test .left))))

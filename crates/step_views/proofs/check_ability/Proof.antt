@@ -15,4 +15,6 @@ check-ability-spec =
     (λ c. search needs)
     (λ c κs. search needs)
     (λ c κs. search needs)
-    (λ c p q. leaf-asked (leaf-at (c .before .before .before .before .before .token-at .ensures) q (c .before .before .before .token .given .1)) (c .before .leaf-abilities .ensures) (c .check-set .ensures)))
+    (λ c p q. let token = c .before .before .before in
+    leaf-asked (leaf-at (token .before .before .token-at .ensures) q (token .token .given .1)) (c .before .leaf-abilities .ensures)
+    (c .check-set .ensures)))

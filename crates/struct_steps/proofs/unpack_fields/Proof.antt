@@ -17,13 +17,21 @@ unpack-fields-spec =
     (λ c κs. let q = c .before .before .before .pre .1 .1 in (types-at q, (list-small q, omega (arith, c .before .before .before .pre .1 .2))))
     (λ c. search needs)
     (λ c. sym (length-take-le _ _ (omega (arith, list-small (c .before .before .before .before .before .before .pre .1 .1)))))
-    (λ c κs. (c .before .before .before .before .before .before .pre .1 .0, arguments-of (c .before .before .before .before .before .before .pre .1 .1) (c .before .before .type-places .ensures)))
+    (λ c κs. let start = c .before .before .before .before .before .before in
+    (start .pre .1 .0, arguments-of (start .pre .1 .1) (c .before .before .type-places .ensures)))
     (λ c. search needs)
     (λ c. search needs)
     (λ c. search needs)
-    (λ c. sym (length-take-le _ _ (omega (arith, list-small (c .before .before .before .before .before .before .before .before .before .before .before .pre .1 .1)))))
-    (λ c κs. (c .before .before .before .before .before .before .before .before .before .before .before .pre .0, (c .before .before .before .before .before .before .before .before .before .before .before .pre .1 .0, arguments-of (c .before .before .before .before .before .before .before .before .before .before .before .pre .1 .1) (c .before .before .before .before .before .before .before .type-places .ensures))))
+    (λ c. let start = c .before .before .before .before .before .before .before .before .before .before .before in
+    sym (length-take-le _ _ (omega (arith, list-small (start .pre .1 .1)))))
+    (λ c κs. let start = c .before .before .before .before .before .before .before .before .before .before .before in (
+      start .pre .0,
+      (start .pre .1 .0, arguments-of (start .pre .1 .1) (c .before .before .before .before .before .before .before .type-places .ensures)),
+    ))
     (λ c κs. search needs)
-    (λ c. unpack-past (c .before .before .before .before .before .type-places .ensures) (c .before .before .instantiates-each .ensures) (c .enum-told .given .1))
+    (λ c. unpack-past (c .before .before .before .before .before .type-places .ensures) (c .before .before .instantiates-each .ensures)
+    (c .enum-told .given .1))
     (λ c. search needs)
-    (λ c. unpack-made (c .before .before .before .before .before .before .before .before .before .before .before .type-places .ensures) (c .before .before .before .before .before .before .before .before .instantiates-each .ensures) (c .before .before .before .before .before .before .enum-told2 .given .1) (rw (c .rebuilt .ensures) (c .before .before .before .push-each .ensures))))
+    (λ c. let told = c .before .before .before .before .before .before in
+    unpack-made (told .before .before .before .before .before .type-places .ensures) (told .before .before .instantiates-each .ensures)
+    (told .enum-told2 .given .1) (rw (c .rebuilt .ensures) (c .before .before .before .push-each .ensures))))

@@ -5,7 +5,8 @@ use borrow.Author.Needs.{needs}
 use Rattle.signature_token.specs.Ends.{typeMeasure, listMeasure, type-room, inner-falls, arguments-fall, struct-end, parameter-end}
 use Rattle.signature_token.specs.Token.{at-some}
 use Rattle.signature_token.specs.TokenLaws.{inner-type, inner-types}
-use Rattle.substitution.specs.Size.{Counting, leaf-size, wrapped-size, struct-size, instantiation-size, parameter-size, counting-start, counting-next, counting-past, counting-done, counting-type, counting-small, counting-onward}
+use Rattle.substitution.specs.Size.{Counting, leaf-size, wrapped-size, struct-size, instantiation-size, parameter-size, counting-start}
+use Rattle.substitution.specs.Size.{counting-next, counting-past, counting-done, counting-type, counting-small, counting-onward}
 use Prim.Native.Nat.{ℕ, _<_, _+_, _-_}
 use borrow.Fn.Kinds.{In}
 use borrow.Fn.PlainCycle.{Measures, is, falls, and}
@@ -79,20 +80,39 @@ pub +size-of-type+size-of-types-spec : {M : Type 1} → statement M
     (λ c κs. omega (arith, c .before .before .before .before .before .before .pre .1 .1 .1))
     (λ c. search needs)
     (λ c κs. omega (arith, c .before .before .before .before .before .before .before .pre .1 .1 .1))
-    (λ c κs. let w = c .before .before .before .before .token-at .ensures in let e = c .before .before .inner .given .1 in let q = c .before .before .before .before .before .before .before .before .pre .1 in let m = c .before .before .before .before .before .before .before .before .pre .0 in (omega (arith, inner-falls w (q .0) e), (inner-type w (q .0) e, (q .1 .0, omega (arith, c .grown2 .ensures .is)))))
+    (λ c κs. let inner = c .before .before in
+    let start = inner .before .before .before .before .before .before in
+    let w = inner .before .before .token-at .ensures in
+    let e = inner .inner .given .1 in
+    let q = start .pre .1 in
+    let m = start .pre .0 in
+    (omega (arith, inner-falls w (q .0) e), (inner-type w (q .0) e, (q .1 .0, omega (arith, c .grown2 .ensures .is)))))
     (λ c. search needs)
-    (λ c. omega (arith, struct-end (c .before .before .token-at .ensures) (c .enum-told2 .given .1) (c .before .before .before .before .before .before .pre .1 .0), type-room (c .before .before .before .before .before .before .pre .1 .0)))
+    (λ c. let start = c .before .before .before .before .before .before in
+    omega (arith, struct-end (c .before .before .token-at .ensures) (c .enum-told2 .given .1) (start .pre .1 .0), type-room (start .pre .1 .0)))
     (λ c κs. omega (arith, c .before .before .before .before .before .before .pre .1 .1 .1))
     (λ c. search needs)
     (λ c κs. omega (arith, c .before .before .before .before .before .before .before .pre .1 .1 .1))
-    (λ c κs. let w = c .before .before .before .before .token-at .ensures in let e = c .before .before .n .given .1 in let q = c .before .before .before .before .before .before .before .before .pre .1 in let m = c .before .before .before .before .before .before .before .before .pre .0 in (omega (arith, arguments-fall w (q .0) e (omega (arith, c .before .before .before .before .before .before .before .shared-slice-known .given (c .before .before .before .before .before .before .before .before .args .at + 3)))), (inner-types w (q .0) e, (q .1 .0, omega (arith, c .grown4 .ensures .is)))))
+    (λ c κs. let n = c .before .before in
+    let known = n .before .before .before .before .before in
+    let start = known .before in
+    let w = n .before .before .token-at .ensures in
+    let e = n .n .given .1 in
+    let q = start .pre .1 in
+    let m = start .pre .0 in (
+      omega (arith, arguments-fall w (q .0) e (omega (arith, known .shared-slice-known .given (start .args .at + 3)))),
+      (inner-types w (q .0) e, (q .1 .0, omega (arith, c .grown4 .ensures .is))),
+    ))
     (λ c. search needs)
-    (λ c. omega (arith, parameter-end (c .before .before .before .token-at .ensures) (c .before .i .given .1) (c .before .before .before .before .before .before .before .pre .1 .0), type-room (c .before .before .before .before .before .before .before .pre .1 .0)))
+    (λ c. let start = c .before .before .before .before .before .before .before in
+    omega (arith, parameter-end (c .before .before .before .token-at .ensures) (c .before .i .given .1) (start .pre .1 .0), type-room (start .pre .1 .0)))
     (λ c κs. c .before .before .before .before .before .before .before .pre .1 .1)
     (λ c. leaf-size (c .before .before .before .token-at .ensures) (c .before .enum-told .given .1) (c .grown .ensures))
-    (λ c. wrapped-size (c .before .before .before .before .before .token-at .ensures) (c .before .before .before .inner .given .1) (c .before .grown2 .ensures) (c .size-of-type .ensures))
+    (λ c. let inner = c .before .before .before in
+    wrapped-size (inner .before .before .token-at .ensures) (inner .inner .given .1) (c .before .grown2 .ensures) (c .size-of-type .ensures))
     (λ c. struct-size (c .before .before .before .token-at .ensures) (c .before .enum-told2 .given .1) (c .grown3 .ensures))
-    (λ c. instantiation-size (c .before .before .before .before .before .token-at .ensures) (c .before .before .before .n .given .1) (c .before .grown4 .ensures) (c .size-of-types .ensures))
+    (λ c. let n = c .before .before .before in
+    instantiation-size (n .before .before .token-at .ensures) (n .n .given .1) (c .before .grown4 .ensures) (c .size-of-types .ensures))
     (λ c. parameter-size (c .before .before .before .before .token-at .ensures) (c .before .before .i .given .1) (c .size-of-parameter .ensures)))
     λ t. size-of-types-lts.spec
     (size-of-type-below t, size-of-type.Post)
@@ -101,11 +121,21 @@ pub +size-of-type+size-of-types-spec : {M : Type 1} → statement M
     size-of-types-Inv-loop
     size-of-types-μ-loop
     (λ c. counting-start (c .before .before .before .pre .1 .1 .1))
-    (λ c κs. let g = c .before .loop .inv in let q = c .before .before .before .before .before .pre .1 in let m = c .before .before .before .before .before .pre .0 in let l = c .loop-test .taken in (omega (arith, counting-onward g (q .0) (q .1 .0)), (counting-type g l (q .0) (q .1 .0), (q .1 .0, counting-small g (q .0) (q .1 .0)))))
+    (λ c κs. let turn = c .before in
+    let start = turn .before .before .before .before in
+    let g = turn .loop .inv in
+    let q = start .pre .1 in
+    let m = start .pre .0 in
+    let l = c .loop-test .taken in
+    (omega (arith, counting-onward g (q .0) (q .1 .0)), (counting-type g l (q .0) (q .1 .0), (q .1 .0, counting-small g (q .0) (q .1 .0)))))
     (λ c. search needs)
     (λ c. search needs)
-    (λ c. counting-past (c .before .before .before .before .loop .inv) (c .before .before .before .loop-test .taken) (rw (c .enum-told .given .1) at (c .before .before .size-of-type .ensures)))
+    (λ c. let turn = c .before .before .before .before in
+    counting-past (turn .loop .inv) (c .before .before .before .loop-test .taken)
+    (rw (c .enum-told .given .1) at (c .before .before .size-of-type .ensures)))
     (λ c. omega arith)
     (λ c. omega arith)
-    (λ c. counting-next (c .before .before .before .before .before .loop .inv) (c .before .before .before .before .loop-test .taken) (rw (c .before .size .given .1) at (c .before .before .before .size-of-type .ensures)))
+    (λ c. let turn = c .before .before .before .before .before in
+    counting-next (turn .loop .inv) (c .before .before .before .before .loop-test .taken)
+    (rw (c .before .size .given .1) at (c .before .before .before .size-of-type .ensures)))
     (λ c. counting-done (c .before .loop .inv) (omega arith))

@@ -8,7 +8,9 @@ use borrow.Author.Tests.{not-true, not-false}
 use Rattle.signature_token.specs.Ends.{typeMeasure, listMeasure, type-room, inner-falls, arguments-fall, struct-end, parameter-end}
 use Rattle.signature_token.specs.Token.{at-some}
 use Rattle.substitution.specs.Filling.{leaf-fits, struct-fits, wrapped-fits, instantiation-fits, wrapped-room, instantiation-room, parameter-within, parameter-room}
-use Rattle.substitution_comparison.specs.Compare.{Matching, leaf-matched, wrapped-matched, wrapped-differs, struct-matched, instantiation-matched, instantiation-differs, parameter-matched, matching-start, matching-next, matching-no, matching-done, matching-room, matching-onward}
+use Rattle.substitution_comparison.specs.Compare.{Matching, leaf-matched, wrapped-matched, wrapped-differs, struct-matched, instantiation-matched}
+use Rattle.substitution_comparison.specs.Compare.{instantiation-differs, parameter-matched, matching-start, matching-next, matching-no, matching-done}
+use Rattle.substitution_comparison.specs.Compare.{matching-room, matching-onward}
 use Prim.Native.Nat.{ℕ, _<_, _+_, _-_}
 use borrow.Fn.Kinds.{In}
 use borrow.Fn.PlainCycle.{Measures, is, falls, and}
@@ -75,29 +77,76 @@ pub +match-type+match-types-spec : {M : Type 1} → statement M
     (λ c. omega (arith, at-some (c .before .before .before .before .before .before .before .pre .1 .filling .from)))
     (λ c κs. leaf-fits (c .before .before .token-at .ensures) (c .before .before .before .before .before .before .before .pre .1) (c .enum-told .given .1))
     (λ c. search needs)
-    (λ c κs. wrapped-fits (c .before .before .before .token-at .ensures) (c .before .before .before .before .before .before .before .before .pre .1) (c .before .inner .given .1))
-    (λ c. wrapped-differs (c .before .before .before .before .before .token-at .ensures) (c .before .before .before .inner .given .1) (rw (not-true (c .before .same-bytes .result) (c .if1 .taken)) at (c .before .same-bytes .ensures)))
-    (λ c. omega (arith, wrapped-fits (c .before .before .before .before .before .token-at .ensures) (c .before .before .before .before .before .before .before .before .before .before .pre .1) (c .before .before .before .inner .given .1) .free))
-    (λ c κs. let w = c .before .before .before .before .before .token-at .ensures in let e = c .before .before .before .inner .given .1 in let q = c .before .before .before .before .before .before .before .before .before .before .pre .1 in let m = c .before .before .before .before .before .before .before .before .before .before .pre .0 in (omega (arith, inner-falls w (q .filling .from) e), wrapped-room w q e refl))
+    (λ c κs. let start = c .before .before .before .before .before .before .before .before in
+    wrapped-fits (c .before .before .before .token-at .ensures) (start .pre .1) (c .before .inner .given .1))
+    (λ c. let inner = c .before .before .before in
+    wrapped-differs (inner .before .before .token-at .ensures) (inner .inner .given .1)
+    (rw (not-true (c .before .same-bytes .result) (c .if1 .taken)) at (c .before .same-bytes .ensures)))
+    (λ c. let inner = c .before .before .before in
+    let start = inner .before .before .before .before .before .before .before in
+    omega (arith, wrapped-fits (inner .before .before .token-at .ensures) (start .pre .1) (inner .inner .given .1) .free))
+    (λ c κs. let inner = c .before .before .before in
+    let start = inner .before .before .before .before .before .before .before in
+    let w = inner .before .before .token-at .ensures in
+    let e = inner .inner .given .1 in
+    let q = start .pre .1 in
+    let m = start .pre .0 in
+    (omega (arith, inner-falls w (q .filling .from) e), wrapped-room w q e refl))
     (λ c. search needs)
-    (λ c. omega (arith, struct-end (c .before .before .token-at .ensures) (c .enum-told2 .given .1) (c .before .before .before .before .before .before .before .pre .1 .filling .from), type-room (c .before .before .before .before .before .before .before .pre .1 .filling .from)))
+    (λ c. let start = c .before .before .before .before .before .before .before in
+    omega (
+      arith,
+      struct-end (c .before .before .token-at .ensures) (c .enum-told2 .given .1) (start .pre .1 .filling .from),
+      type-room (start .pre .1 .filling .from),
+    ))
     (λ c κs. struct-fits (c .before .before .token-at .ensures) (c .before .before .before .before .before .before .before .pre .1) (c .enum-told2 .given .1))
     (λ c. search needs)
-    (λ c κs. instantiation-fits (c .before .before .before .token-at .ensures) (c .before .before .before .before .before .before .before .before .pre .1) (c .before .n .given .1))
-    (λ c. instantiation-differs (c .before .before .before .before .before .token-at .ensures) (c .before .before .before .n .given .1) (rw (not-true (c .before .same-bytes2 .result) (c .if2 .taken)) at (c .before .same-bytes2 .ensures)))
-    (λ c. omega (arith, instantiation-fits (c .before .before .before .before .before .token-at .ensures) (c .before .before .before .before .before .before .before .before .before .before .pre .1) (c .before .before .before .n .given .1) .free))
-    (λ c κs. let w = c .before .before .before .before .before .token-at .ensures in let e = c .before .before .before .n .given .1 in let q = c .before .before .before .before .before .before .before .before .before .before .pre .1 in let m = c .before .before .before .before .before .before .before .before .before .before .pre .0 in (omega (arith, arguments-fall w (q .filling .from) e (omega (arith, c .before .before .before .before .before .before .before .before .shared-slice-known2 .given (c .before .before .before .before .before .before .before .before .before .before .args .at + 3)))), instantiation-room w q e refl))
+    (λ c κs. let start = c .before .before .before .before .before .before .before .before in
+    instantiation-fits (c .before .before .before .token-at .ensures) (start .pre .1) (c .before .n .given .1))
+    (λ c. let n = c .before .before .before in
+    instantiation-differs (n .before .before .token-at .ensures) (n .n .given .1)
+    (rw (not-true (c .before .same-bytes2 .result) (c .if2 .taken)) at (c .before .same-bytes2 .ensures)))
+    (λ c. let n = c .before .before .before in
+    let start = n .before .before .before .before .before .before .before in
+    omega (arith, instantiation-fits (n .before .before .token-at .ensures) (start .pre .1) (n .n .given .1) .free))
+    (λ c κs. let n = c .before .before .before in
+    let known = n .before .before .before .before .before in
+    let start = known .before .before in
+    let w = n .before .before .token-at .ensures in
+    let e = n .n .given .1 in
+    let q = start .pre .1 in
+    let m = start .pre .0 in (
+      omega (arith, arguments-fall w (q .filling .from) e (omega (arith, known .shared-slice-known2 .given (start .args .at + 3)))),
+      instantiation-room w q e refl,
+    ))
     (λ c. search needs)
-    (λ c. omega (arith, parameter-within (c .before .before .before .token-at .ensures) (c .before .before .before .before .before .before .before .before .pre .1) (c .before .i .given .1)))
-    (λ c. parameter-within (c .before .before .before .before .token-at .ensures) (c .before .before .before .before .before .before .before .before .before .pre .1) (c .before .before .i .given .1))
+    (λ c. let start = c .before .before .before .before .before .before .before .before in
+    omega (arith, parameter-within (c .before .before .before .token-at .ensures) (start .pre .1) (c .before .i .given .1)))
+    (λ c. let i = c .before .before in
+    let start = i .before .before .before .before .before .before .before in
+    parameter-within (i .before .before .token-at .ensures) (start .pre .1) (i .i .given .1))
     (λ c. fits-widen tt (c .shared-slice-known5 .given _))
-    (λ c. omega (arith, parameter-end (c .before .before .before .before .token-at .ensures) (c .before .before .i .given .1) (c .before .before .before .before .before .before .before .before .before .pre .1 .filling .from), type-room (c .before .before .before .before .before .before .before .before .before .pre .1 .filling .from)))
-    (λ c κs. parameter-room (c .before .before .before .before .token-at .ensures) (c .before .before .before .before .before .before .before .before .before .pre .1) (c .before .before .i .given .1))
+    (λ c. let i = c .before .before in
+    let start = i .before .before .before .before .before .before .before in
+    omega (
+      arith,
+      parameter-end (i .before .before .token-at .ensures) (i .i .given .1) (start .pre .1 .filling .from),
+      type-room (start .pre .1 .filling .from),
+    ))
+    (λ c κs. let i = c .before .before in
+    let start = i .before .before .before .before .before .before .before in
+    parameter-room (i .before .before .token-at .ensures) (start .pre .1) (i .i .given .1))
     (λ c. leaf-matched (c .before .before .before .token-at .ensures) (c .before .enum-told .given .1) (c .match-part .ensures))
-    (λ c. wrapped-matched (c .before .before .before .before .before .before .token-at .ensures) (c .before .before .before .before .inner .given .1) (rw (not-false (c .before .before .same-bytes .result) (c .before .if1 .left)) at (c .before .before .same-bytes .ensures)) (c .match-type .ensures))
+    (λ c. let inner = c .before .before .before .before in
+    wrapped-matched (inner .before .before .token-at .ensures) (inner .inner .given .1)
+    (rw (not-false (c .before .before .same-bytes .result) (c .before .if1 .left)) at (c .before .before .same-bytes .ensures)) (c .match-type .ensures))
     (λ c. struct-matched (c .before .before .before .token-at .ensures) (c .before .enum-told2 .given .1) (c .match-part2 .ensures))
-    (λ c. instantiation-matched (c .before .before .before .before .before .before .token-at .ensures) (c .before .before .before .before .n .given .1) (rw (not-false (c .before .before .same-bytes2 .result) (c .before .if2 .left)) at (c .before .before .same-bytes2 .ensures)) (c .match-types .ensures))
-    (λ c. parameter-matched (c .before .before .before .before .before .token-at .ensures) (c .before .before .before .i .given .1) (c .match-argument .ensures)))
+    (λ c. let n = c .before .before .before .before in
+    instantiation-matched (n .before .before .token-at .ensures) (n .n .given .1)
+    (rw (not-false (c .before .before .same-bytes2 .result) (c .before .if2 .left)) at (c .before .before .same-bytes2 .ensures))
+    (c .match-types .ensures))
+    (λ c. let i = c .before .before .before in
+    parameter-matched (i .before .before .token-at .ensures) (i .i .given .1) (c .match-argument .ensures)))
     λ t. match-types-lts.spec
     (match-type-below t, match-type.Post)
     (match-types-at t)
@@ -105,11 +154,19 @@ pub +match-type+match-types-spec : {M : Type 1} → statement M
     match-types-Inv-loop
     match-types-μ-loop
     (λ c. matching-start)
-    (λ c κs. let g = c .before .loop .inv in let m = c .before .before .before .before .before .before .pre .0 in let q = c .before .before .before .before .before .before .pre .1 in (omega (arith, matching-onward g (q .filling), c .loop-test .taken), matching-room g (c .loop-test .taken) q))
+    (λ c κs. let turn = c .before in
+    let start = turn .before .before .before .before .before in
+    let g = turn .loop .inv in
+    let m = start .pre .0 in
+    let q = start .pre .1 in
+    (omega (arith, matching-onward g (q .filling), c .loop-test .taken), matching-room g (c .loop-test .taken) q))
     (λ c. search needs)
     (λ c. search needs)
-    (λ c. matching-no (c .before .before .before .before .loop .inv) (c .before .before .before .loop-test .taken) (rw (c .enum-told .given .1) at (c .before .before .match-type .ensures)))
+    (λ c. let turn = c .before .before .before .before in
+    matching-no (turn .loop .inv) (c .before .before .before .loop-test .taken) (rw (c .enum-told .given .1) at (c .before .before .match-type .ensures)))
     (λ c. omega arith)
     (λ c. omega arith)
-    (λ c. matching-next (c .before .before .before .before .before .loop .inv) (c .before .before .before .before .loop-test .taken) (rw (c .before .one .given .1) at (c .before .before .before .match-type .ensures)))
+    (λ c. let turn = c .before .before .before .before .before in
+    matching-next (turn .loop .inv) (c .before .before .before .before .loop-test .taken)
+    (rw (c .before .one .given .1) at (c .before .before .before .match-type .ensures)))
     (λ c. matching-done (c .before .loop .inv) (omega arith))

@@ -7,4 +7,10 @@ use Rattle.substitution_comparison.proofs.match_argument.Statement.{sta
 use Rattle.substitution_comparison.proofs.match_argument.Tie as tie
 
 pub match-argument-spec : {M : Type 1} → statement M
-match-argument-spec = tie.close (tie.spec (λ c κs. search needs) (λ c. omega (arith, c .end-of-type .ensures (c .before .before .before .pre .type))) (λ c κs. argument-fits (c .before .before .before .pre) (c .end-of-type .ensures)) (λ c. argument-matched (c .before .end-of-type .ensures) (c .match-part .ensures)))
+match-argument-spec =
+    tie.close
+    (tie.spec
+    (λ c κs. search needs)
+    (λ c. omega (arith, c .end-of-type .ensures (c .before .before .before .pre .type)))
+    (λ c κs. argument-fits (c .before .before .before .pre) (c .end-of-type .ensures))
+    (λ c. argument-matched (c .before .end-of-type .ensures) (c .match-part .ensures)))

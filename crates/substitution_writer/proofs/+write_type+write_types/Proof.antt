@@ -7,7 +7,8 @@ use Rattle.signature_token.specs.Ends.{typeMeasure, listMeasure, type-room, inn
 use Rattle.signature_token.specs.Token.{at-some}
 use Rattle.byte_parts.specs.Bytes.{copied-long}
 use Rattle.substitution.specs.Filling.{leaf-fits, struct-fits, wrapped-fits, instantiation-fits, wrapped-room, instantiation-room, parameter-within, parameter-room}
-use Rattle.substitution_writer.specs.Write.{Writing, leaf-wrote, wrapped-wrote, struct-wrote, instantiation-wrote, parameter-wrote, writing-start, writing-next, writing-done, writing-room, writing-onward, writing-long}
+use Rattle.substitution_writer.specs.Write.{Writing, leaf-wrote, wrapped-wrote, struct-wrote, instantiation-wrote, parameter-wrote}
+use Rattle.substitution_writer.specs.Write.{writing-start, writing-next, writing-done, writing-room, writing-onward, writing-long}
 use Prim.Native.Nat.{ℕ, _<_, _+_, _-_}
 use borrow.Fn.Kinds.{In}
 use borrow.Fn.PlainCycle.{Measures, is, falls, and}
@@ -69,32 +70,76 @@ pub +write-type+write-types-spec : {M : Type 1} → statement M
     (λ c κs. c .before .before .before .before .pre .1 .filling .from)
     (λ c. search needs)
     (λ c. omega (arith, at-some (c .before .before .before .before .before .before .before .pre .1 .filling .from)))
-    (λ c κs. leaf-fits (c .before .before .before .token-at .ensures) (c .before .before .before .before .before .before .before .before .pre .1) (c .before .enum-told .given .1))
+    (λ c κs. let start = c .before .before .before .before .before .before .before .before in
+    leaf-fits (c .before .before .before .token-at .ensures) (start .pre .1) (c .before .enum-told .given .1))
     (λ c. search needs)
-    (λ c κs. wrapped-fits (c .before .before .before .before .token-at .ensures) (c .before .before .before .before .before .before .before .before .before .pre .1) (c .before .before .inner .given .1))
-    (λ c κs. let w = c .before .before .before .before .before .before .before .before .token-at .ensures in let e = c .before .before .before .before .before .before .inner .given .1 in let k = c .before .before .before .copy2 .ensures in let m = c .before .before .before .before .before .before .before .before .before .before .before .before .before .pre .0 in (omega (arith, inner-falls w (c .before .before .before .before .before .before .before .before .before .before .before .before .before .pre .1 .filling .from) e), rw (copied-long k) (wrapped-room w (c .before .before .before .before .before .before .before .before .before .before .before .before .before .pre .1) e (k .reached))))
+    (λ c κs. let inner = c .before .before in
+    let start = inner .before .before .before .before .before .before .before in
+    wrapped-fits (inner .before .before .token-at .ensures) (start .pre .1) (inner .inner .given .1))
+    (λ c κs. let inner = c .before .before .before .before .before .before in
+    let start = inner .before .before .before .before .before .before .before in
+    let w = inner .before .before .token-at .ensures in
+    let e = inner .inner .given .1 in
+    let k = c .before .before .before .copy2 .ensures in
+    let m = start .pre .0 in
+    (omega (arith, inner-falls w (start .pre .1 .filling .from) e), rw (copied-long k) (wrapped-room w (start .pre .1) e (k .reached))))
     (λ c. search needs)
-    (λ c. omega (arith, struct-end (c .before .before .token-at .ensures) (c .enum-told2 .given .1) (c .before .before .before .before .before .before .before .pre .1 .filling .from), type-room (c .before .before .before .before .before .before .before .pre .1 .filling .from)))
-    (λ c κs. struct-fits (c .before .before .before .token-at .ensures) (c .before .before .before .before .before .before .before .before .pre .1) (c .before .enum-told2 .given .1))
+    (λ c. let start = c .before .before .before .before .before .before .before in
+    omega (
+      arith,
+      struct-end (c .before .before .token-at .ensures) (c .enum-told2 .given .1) (start .pre .1 .filling .from),
+      type-room (start .pre .1 .filling .from),
+    ))
+    (λ c κs. let start = c .before .before .before .before .before .before .before .before in
+    struct-fits (c .before .before .before .token-at .ensures) (start .pre .1) (c .before .enum-told2 .given .1))
     (λ c. search needs)
-    (λ c κs. instantiation-fits (c .before .before .before .before .token-at .ensures) (c .before .before .before .before .before .before .before .before .before .pre .1) (c .before .before .n .given .1))
-    (λ c κs. let w = c .before .before .before .before .before .before .before .before .token-at .ensures in let e = c .before .before .before .before .before .before .n .given .1 in let k = c .before .before .before .copy4 .ensures in let m = c .before .before .before .before .before .before .before .before .before .before .before .before .before .pre .0 in (omega (arith, arguments-fall w (c .before .before .before .before .before .before .before .before .before .before .before .before .before .pre .1 .filling .from) e (omega (arith, c .before .before .before .before .before .before .before .before .before .before .before .shared-slice-known .given (c .before .before .before .before .before .before .before .before .before .before .before .before .before .args .at + 3)))), rw (copied-long k) (instantiation-room w (c .before .before .before .before .before .before .before .before .before .before .before .before .before .pre .1) e (k .reached))))
+    (λ c κs. let n = c .before .before in
+    let start = n .before .before .before .before .before .before .before in
+    instantiation-fits (n .before .before .token-at .ensures) (start .pre .1) (n .n .given .1))
+    (λ c κs. let n = c .before .before .before .before .before .before in
+    let known = n .before .before .before .before .before in
+    let start = known .before .before in
+    let w = n .before .before .token-at .ensures in
+    let e = n .n .given .1 in
+    let k = c .before .before .before .copy4 .ensures in
+    let m = start .pre .0 in (
+      omega (arith, arguments-fall w (start .pre .1 .filling .from) e (omega (arith, known .shared-slice-known .given (start .args .at + 3)))),
+      rw (copied-long k) (instantiation-room w (start .pre .1) e (k .reached)),
+    ))
     (λ c. search needs)
-    (λ c. omega (arith, parameter-end (c .before .before .before .token-at .ensures) (c .before .i .given .1) (c .before .before .before .before .before .before .before .before .pre .1 .filling .from), type-room (c .before .before .before .before .before .before .before .before .pre .1 .filling .from)))
-    (λ c. omega (arith, parameter-within (c .before .before .before .before .token-at .ensures) (c .before .before .before .before .before .before .before .before .before .pre .1) (c .before .before .i .given .1)))
-    (λ c. parameter-within (c .before .before .before .before .before .token-at .ensures) (c .before .before .before .before .before .before .before .before .before .before .pre .1) (c .before .before .before .i .given .1))
+    (λ c. let start = c .before .before .before .before .before .before .before .before in
+    omega (
+      arith,
+      parameter-end (c .before .before .before .token-at .ensures) (c .before .i .given .1) (start .pre .1 .filling .from),
+      type-room (start .pre .1 .filling .from),
+    ))
+    (λ c. let i = c .before .before in
+    let start = i .before .before .before .before .before .before .before in
+    omega (arith, parameter-within (i .before .before .token-at .ensures) (start .pre .1) (i .i .given .1)))
+    (λ c. let i = c .before .before .before in
+    let start = i .before .before .before .before .before .before .before in
+    parameter-within (i .before .before .token-at .ensures) (start .pre .1) (i .i .given .1))
     (λ c. fits-widen tt (c .shared-slice-known4 .given _))
-    (λ c κs. parameter-room (c .before .before .before .before .before .token-at .ensures) (c .before .before .before .before .before .before .before .before .before .before .pre .1) (c .before .before .before .i .given .1))
+    (λ c κs. let i = c .before .before .before in
+    let start = i .before .before .before .before .before .before .before in
+    parameter-room (i .before .before .token-at .ensures) (start .pre .1) (i .i .given .1))
     (λ c. search needs)
-    (λ c. leaf-wrote (c .before .before .before .before .before .before .token-at .ensures) (c .before .before .before .before .enum-told .given .1) (c .before .before .copy .ensures))
+    (λ c. let told = c .before .before .before .before in
+    leaf-wrote (told .before .before .token-at .ensures) (told .enum-told .given .1) (c .before .before .copy .ensures))
     (λ c. search needs)
-    (λ c. wrapped-wrote (c .before .before .before .before .before .before .before .before .before .before .before .token-at .ensures) (c .before .before .before .before .before .before .before .before .before .inner .given .1) (c .before .before .before .before .before .before .copy2 .ensures) (c .before .before .write-type .ensures))
+    (λ c. let inner = c .before .before .before .before .before .before .before .before .before in
+    wrapped-wrote (inner .before .before .token-at .ensures) (inner .inner .given .1) (c .before .before .before .before .before .before .copy2 .ensures)
+    (c .before .before .write-type .ensures))
     (λ c. search needs)
-    (λ c. struct-wrote (c .before .before .before .before .before .before .token-at .ensures) (c .before .before .before .before .enum-told2 .given .1) (c .before .before .copy3 .ensures))
+    (λ c. let told = c .before .before .before .before in
+    struct-wrote (told .before .before .token-at .ensures) (told .enum-told2 .given .1) (c .before .before .copy3 .ensures))
     (λ c. search needs)
-    (λ c. instantiation-wrote (c .before .before .before .before .before .before .before .before .before .before .before .token-at .ensures) (c .before .before .before .before .before .before .before .before .before .n .given .1) (c .before .before .before .before .before .before .copy4 .ensures) (c .before .before .write-types .ensures))
+    (λ c. let n = c .before .before .before .before .before .before .before .before .before in
+    instantiation-wrote (n .before .before .token-at .ensures) (n .n .given .1) (c .before .before .before .before .before .before .copy4 .ensures)
+    (c .before .before .write-types .ensures))
     (λ c. search needs)
-    (λ c. parameter-wrote (c .before .before .before .before .before .before .before .before .token-at .ensures) (c .before .before .before .before .before .before .i .given .1) (c .before .before .write-argument .ensures)))
+    (λ c. let i = c .before .before .before .before .before .before in
+    parameter-wrote (i .before .before .token-at .ensures) (i .i .given .1) (c .before .before .write-argument .ensures)))
     λ t. write-types-lts.spec
     (write-type-below t, write-type.Post)
     (write-types-at t)
@@ -102,9 +147,17 @@ pub +write-type+write-types-spec : {M : Type 1} → statement M
     write-types-Inv-loop
     write-types-μ-loop
     (λ c. writing-start)
-    (λ c κs. let g = c .before .before .loop .inv in let m = c .before .before .before .before .before .before .before .pre .0 in let q = c .before .before .before .before .before .before .before .pre .1 in (omega (arith, writing-onward g (q .filling), c .before .loop-test .taken), rw (writing-long g (q .filling)) (writing-room g (c .before .loop-test .taken) q)))
+    (λ c κs. let turn = c .before .before in
+    let start = turn .before .before .before .before .before in
+    let g = turn .loop .inv in
+    let m = start .pre .0 in
+    let q = start .pre .1 in (
+      omega (arith, writing-onward g (q .filling), c .before .loop-test .taken),
+      rw (writing-long g (q .filling)) (writing-room g (c .before .loop-test .taken) q),
+    ))
     (λ c. omega arith)
     (λ c. omega arith)
-    (λ c. writing-next (c .before .before .before .before .before .loop .inv) (c .before .before .before .before .loop-test .taken) (c .before .before .write-type .ensures))
+    (λ c. let turn = c .before .before .before .before .before in
+    writing-next (turn .loop .inv) (c .before .before .before .before .loop-test .taken) (c .before .before .write-type .ensures))
     (λ c. writing-long (c .before .loop .inv) (c .before .before .before .before .before .before .pre .1 .filling))
     (λ c. writing-done (c .before .loop .inv) (omega arith))

@@ -15,6 +15,8 @@ instantiate-into-spec =
     (λ c κs. search needs)
     (λ c. search needs)
     (λ c. wrote-at (c .before .before .write-type .ensures))
-    (λ c. omega (arith, leaf-fits (c .before .before .before .token-at .ensures) (c .before .before .before .before .before .before .before .before .pre) (c .before .token .given .1) .free))
+    (λ c. let start = c .before .before .before .before .before .before .before .before in
+    omega (arith, leaf-fits (c .before .before .before .token-at .ensures) (start .pre) (c .before .token .given .1) .free))
     (λ c. search needs)
-    (λ c. leaf-at-front (c .before .before .before .token-at .ensures) (c .before .before .before .before .before .before .before .before .pre .filling .from) (c .before .token .given .1)))
+    (λ c. let start = c .before .before .before .before .before .before .before .before in
+    leaf-at-front (c .before .before .before .token-at .ensures) (start .pre .filling .from) (c .before .token .given .1)))

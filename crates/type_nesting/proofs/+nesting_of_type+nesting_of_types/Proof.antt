@@ -4,7 +4,8 @@ use borrow.Author.Needs.{needs}
 use Rattle.signature_token.specs.TokenLaws.{inner-type, inner-types}
 use Rattle.signature_token.specs.Lists.{next-type}
 use Rattle.signature_token.specs.Ends.{typeMeasure, listMeasure, inner-falls, arguments-fall}
-use Rattle.type_nesting.specs.Nesting.{DeepestAlong, deepest-start, deepest-next, deepest-done, nesting-fits, nestings-fit, leaf-nesting, wrapped-nesting, struct-nesting, instantiation-nesting, parameter-nesting}
+use Rattle.type_nesting.specs.Nesting.{DeepestAlong, deepest-start, deepest-next, deepest-done, nesting-fits, nestings-fit, leaf-nesting}
+use Rattle.type_nesting.specs.Nesting.{wrapped-nesting, struct-nesting, instantiation-nesting, parameter-nesting}
 use Prim.Native.Nat.{ℕ, _<_, _+_, _-_}
 use borrow.Fn.Kinds.{In}
 use borrow.Fn.PlainCycle.{Measures, is, falls, and}
@@ -79,12 +80,28 @@ pub +nesting-of-type+nesting-of-types-spec : {M : Type 1} → statement M
     (λ c κs. c .before .pre .1)
     (λ c. search needs)
     (λ c. search needs)
-    (λ c κs. let e = c .before .inner .given .1 in let w = c .before .before .before .token-at .ensures in let m = c .before .before .before .before .before .pre .0 in (omega (arith, inner-falls w (c .before .before .before .before .before .pre .1) e), inner-type w (c .before .before .before .before .before .pre .1) e))
-    (λ c. omega (arith, nesting-fits (inner-type (c .before .before .before .before .token-at .ensures) (c .before .before .before .before .before .before .pre .1) (c .before .before .inner .given .1)) (c .nesting-of-type .ensures)))
+    (λ c κs. let start = c .before .before .before .before .before in
+    let e = c .before .inner .given .1 in
+    let w = c .before .before .before .token-at .ensures in
+    let m = start .pre .0 in
+    (omega (arith, inner-falls w (start .pre .1) e), inner-type w (start .pre .1) e))
+    (λ c. let inner = c .before .before in
+    let start = inner .before .before .before .before in
+    omega
+    (arith, nesting-fits (inner-type (inner .before .before .token-at .ensures) (start .pre .1) (inner .inner .given .1)) (c .nesting-of-type .ensures)))
     (λ c. search needs)
     (λ c. search needs)
-    (λ c κs. let e = c .before .n .given .1 in let w = c .before .before .before .token-at .ensures in let m = c .before .before .before .before .before .pre .0 in (omega (arith, arguments-fall w (c .before .before .before .before .before .pre .1) e (omega (arith, c .before .before .before .before .shared-slice-known .given (c .before .before .before .before .before .args .at + 3)))), inner-types w (c .before .before .before .before .before .pre .1) e))
-    (λ c. omega (arith, nestings-fit (inner-types (c .before .before .before .before .token-at .ensures) (c .before .before .before .before .before .before .pre .1) (c .before .before .n .given .1)) (c .nesting-of-types .ensures)))
+    (λ c κs. let known = c .before .before .before .before in
+    let start = known .before in
+    let e = c .before .n .given .1 in
+    let w = c .before .before .before .token-at .ensures in
+    let m = start .pre .0 in (
+      omega (arith, arguments-fall w (start .pre .1) e (omega (arith, known .shared-slice-known .given (start .args .at + 3)))),
+      inner-types w (start .pre .1) e,
+    ))
+    (λ c. let n = c .before .before in
+    let start = n .before .before .before .before in
+    omega (arith, nestings-fit (inner-types (n .before .before .token-at .ensures) (start .pre .1) (n .n .given .1)) (c .nesting-of-types .ensures)))
     (λ c. search needs)
     (λ c. leaf-nesting (c .before .before .token-at .ensures) (c .enum-told .given .1))
     (λ c. wrapped-nesting (c .before .before .before .before .token-at .ensures) (c .before .before .inner .given .1) (c .nesting-of-type .ensures))
@@ -104,10 +121,16 @@ pub +nesting-of-type+nesting-of-types-spec : {M : Type 1} → statement M
     nesting-of-types-Inv-loop
     nesting-of-types-μ-loop
     (λ c. deepest-start)
-    (λ c κs. let r = c .before .loop .inv (c .before .before .before .pre .1) .rest in let m = c .before .before .before .pre .0 in (omega (arith, r .past, c .loop-test .taken), next-type (c .loop-test .taken) r))
+    (λ c κs. let turn = c .before in
+    let start = turn .before .before in
+    let r = turn .loop .inv (start .pre .1) .rest in
+    let m = start .pre .0 in
+    (omega (arith, r .past, c .loop-test .taken), next-type (c .loop-test .taken) r))
     (λ c κs. search needs)
     (λ c κs. next-type (c .before .before .loop-test .taken) (c .before .before .before .loop .inv (c .before .before .before .before .before .pre .1) .rest))
     (λ c. omega arith)
     (λ c. omega arith)
-    (λ c. deepest-next (c .before .before .before .loop-test .taken) (c .before .before .before .before .loop .inv) (c .before .before .nesting-of-type .ensures) (c .end-of-type .ensures) (c .before .larger .ensures))
+    (λ c. let turn = c .before .before .before .before in
+    deepest-next (c .before .before .before .loop-test .taken) (turn .loop .inv) (c .before .before .nesting-of-type .ensures) (c .end-of-type .ensures)
+    (c .before .larger .ensures))
     (λ c. deepest-done (omega arith) (c .before .loop .inv))

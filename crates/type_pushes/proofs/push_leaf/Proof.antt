@@ -16,4 +16,5 @@ push-leaf-spec =
     (λ c κs. search needs)
     (λ c κs. search needs)
     (λ c. search needs)
-    (λ c. push-sealed (_ ∷ []) refl (omega arith) (c .before .before .before .before .before .before .put-command .ensures) (c .before .before .seal .ensures .1) (c .before .before .seal .ensures .0)))
+    (λ c. push-sealed (_ ∷ []) refl (omega arith) (c .before .before .before .before .before .before .put-command .ensures)
+    (c .before .before .seal .ensures .1) (c .before .before .seal .ensures .0)))

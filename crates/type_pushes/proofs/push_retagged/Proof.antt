@@ -12,4 +12,6 @@ push-retagged-spec =
     (λ c. search needs)
     (λ c κs. search needs)
     (λ c. search needs)
-    (λ c. push-retagged _ (c .before .before .before .before .before .before .before .before .before .pre .1 .0) (c .before .before .before .before .before .before .before .before .before .pre .1 .1) (c .before .before .before .before .before .before .put-command .ensures) (c .before .before .seal .ensures .1) (c .before .before .seal .ensures .0)))
+    (λ c. let start = c .before .before .before .before .before .before .before .before .before in
+    push-retagged _ (start .pre .1 .0) (start .pre .1 .1) (c .before .before .before .before .before .before .put-command .ensures)
+    (c .before .before .seal .ensures .1) (c .before .before .seal .ensures .0)))

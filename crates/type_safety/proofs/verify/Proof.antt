@@ -15,16 +15,31 @@ verify-spec =
     (λ c κs. search needs)
     (λ c. search needs)
     (λ c κs. search needs)
-    (λ c. c .before .before .before .before .before .parameter-places .ensures .are (c .before .before .before .before .before .before .before .before .before .before .pre .1) .fits)
-    (λ c. sym (length-take-le _ _ (c .before .before .before .before .before .before .parameter-places .ensures .are (c .before .before .before .before .before .before .before .before .before .before .before .pre .1) .fits)))
-    (λ c. c .before .before .before .local-places .ensures .are (c .before .before .before .before .before .before .before .before .before .before .before .pre .1) .fits)
-    (λ c. sym (length-take-le _ _ (c .before .before .before .before .local-places .ensures .are (c .before .before .before .before .before .before .before .before .before .before .before .before .pre .1) .fits)))
-    (λ c κs. (c .before .before .before .before .before .before .before .before .before .before .before .before .pre .0, (c .before .before .before .before .before .before .before .before .before .before .before .before .pre .1, record { first = λ p. c .before .before .before .before .before .before .before .parameter-places .ensures .are p .consecutive; second = λ p. c .before .before .before .before .local-places .ensures .are p .consecutive })))
+    (λ c. let start = c .before .before .before .before .before .before .before .before .before .before in
+    c .before .before .before .before .before .parameter-places .ensures .are (start .pre .1) .fits)
+    (λ c. let start = c .before .before .before .before .before .before .before .before .before .before .before in
+    sym (length-take-le _ _ (c .before .before .before .before .before .before .parameter-places .ensures .are (start .pre .1) .fits)))
+    (λ c. let start = c .before .before .before .before .before .before .before .before .before .before .before in
+    c .before .before .before .local-places .ensures .are (start .pre .1) .fits)
+    (λ c. let start = c .before .before .before .before .before .before .before .before .before .before .before .before in
+    sym (length-take-le _ _ (c .before .before .before .before .local-places .ensures .are (start .pre .1) .fits)))
+    (λ c κs. let start = c .before .before .before .before .before .before .before .before .before .before .before .before in (
+      start .pre .0,
+      (
+        start .pre .1,
+        record {
+          first = λ p. c .before .before .before .before .before .before .before .parameter-places .ensures .are p .consecutive;
+          second = λ p. c .before .before .before .before .local-places .ensures .are p .consecutive;
+        },
+      ),
+    ))
     (λ c. search needs)
     (λ c. search needs)
-    (λ c. omega (arith, near-offset (c .before .before .before .before .before .verify-blocks .ensures (c .before .before .before .before .before .before .before .before .before .before .before .before .before .before .before .before .before .before .pre .1)) (c .before .status .given .1)))
+    (λ c. let start = c .before .before .before .before .before .before .before .before .before .before .before .before .before .before .before .before .before .before in
+    omega (arith, near-offset (c .before .before .before .before .before .verify-blocks .ensures (start .pre .1)) (c .before .status .given .1)))
     (λ c κs. search needs)
     (λ c. search needs)
     (λ c p. verdict-is _ (c .before .before .before .before .verify-blocks .ensures p) (c .enum-told .given .1))
     (λ c. search needs)
-    (λ c p. c .refusal-at .ensures ∙ verdict-is _ (c .before .before .before .before .before .before .verify-blocks .ensures p) (c .before .before .status .given .1)))
+    (λ c p. let status = c .before .before in
+    c .refusal-at .ensures ∙ verdict-is _ (status .before .before .before .before .verify-blocks .ensures p) (status .status .given .1)))

@@ -10,10 +10,15 @@ use Rattle.type_safety.proofs.verify_block.Statement.{statement}
 use Rattle.type_safety.proofs.verify_block.Tie as tie
 
 abbrev Inv-loop : tie.InvT-loop
-Inv-loop area₀ weight s index view parameters locals last below₀ i₀ area below i = (p : UnitRead s index view) → InBlock (compiledUnit (p .decoded)) (record { first = i₀; last = last }) area₀ weight area below i
+Inv-loop area₀ weight s index view parameters locals last below₀ i₀ area below i =
+    (p : UnitRead s index view) → InBlock (compiledUnit (p .decoded)) (record { first = i₀; last = last }) area₀ weight area below i
 
 abbrev μ-loop : tie.MeasureT-loop
 μ-loop area₀ weight s index view parameters locals last below₀ i₀ area below i = suc last - i
+
+-- back from `loop` to the function's entry
+abbrev entry : tie.At-loop Inv-loop μ-loop → tie.Start Inv-loop μ-loop
+entry c = c .before .before .before .before .before .before .before .before
 
 pub verify-block-spec : {M : Type 1} → statement M
 verify-block-spec =
@@ -24,13 +29,22 @@ verify-block-spec =
     (λ c. search needs)
     (λ c. search needs)
     (λ c p. in-block-start _ _ (c .before .before .before .before .before .before .before .pre .0))
-    (λ c κs. let p = c .before .before .before .before .before .before .before .before .before .before .pre .1 .0 in (c .before .before .loop .inv p .stacked, (p, (c .before .before .before .before .before .before .before .before .before .before .pre .1 .1 .0, omega arith))))
+    (λ c κs. let turn = c .before .before in
+    let start = entry turn in
+    let p = start .pre .1 .0 in
+    (turn .loop .inv p .stacked, (p, (start .pre .1 .1 .0, omega arith))))
     (λ c. search needs)
-    (λ c. omega (arith, c .before .before .before .before .before .before .before .before .loop .inv (c .before .before .before .before .before .before .before .before .before .before .before .before .before .before .before .before .pre .1 .0) .same))
-    (λ c p. in-block-refused (c .before .before .before .before .before .before .before .before .loop .inv p) (c .before .before .before .before .before .before .before .loop-test .taken) (c .before .before .before .before .before .verify-instr .ensures p) (omega arith) (c .before .status .given .1) (omega arith))
+    (λ c. let turn = c .before .before .before .before .before .before .before .before in
+    let start = entry turn in
+    omega (arith, turn .loop .inv (start .pre .1 .0) .same))
+    (λ c p. let turn = c .before .before .before .before .before .before .before .before in
+    in-block-refused (turn .loop .inv p) (c .before .before .before .before .before .before .before .loop-test .taken)
+    (c .before .before .before .before .before .verify-instr .ensures p) (omega arith) (c .before .status .given .1) (omega arith))
     (λ c. search needs)
     (λ c. omega arith)
     (λ c. omega arith)
-    (λ c p. in-block-next (c .before .before .before .before .before .before .before .before .loop .inv p) (c .before .before .before .before .before .before .before .loop-test .taken) (c .before .before .before .before .before .verify-instr .ensures p) (omega arith) (c .before .next .given .1))
+    (λ c p. let turn = c .before .before .before .before .before .before .before .before in
+    in-block-next (turn .loop .inv p) (c .before .before .before .before .before .before .before .loop-test .taken)
+    (c .before .before .before .before .before .verify-instr .ensures p) (omega arith) (c .before .next .given .1))
     (λ c. c .before .loop .inv (c .before .before .before .before .before .before .before .before .before .pre .1 .0) .same)
     (λ c p. in-block-end (c .before .loop .inv p) (c .loop-test .left)))

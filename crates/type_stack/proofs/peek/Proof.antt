@@ -19,5 +19,6 @@ peek-spec =
     (λ c. search needs)
     (λ c. search needs)
     (λ c. omega (arith, top-number (c .before .before .before .before .before .before .pre) (c .before .before .before .before .if1 .left) .0))
-    (λ c. omega (arith, c .wide2 .ensures, c .before .before .wide .ensures, top-number (c .before .before .before .before .before .before .pre) (c .before .before .before .before .if1 .left) .1))
+    (λ c. let start = c .before .before .before .before .before .before in
+    omega (arith, c .wide2 .ensures, c .before .before .wide .ensures, top-number (start .pre) (c .before .before .before .before .if1 .left) .1))
     (λ c. top-some (c .before .before .before .before .if1 .left) (omega (arith, c .wide2 .ensures, c .before .before .wide .ensures))))

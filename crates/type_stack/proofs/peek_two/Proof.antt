@@ -18,5 +18,7 @@ peek-two-spec =
     (λ c κs. topped (c .before .before .before .before .before .pre) (c .before .before .before .peek .ensures) (c .before .first .given .1) .under)
     (λ c. search needs)
     (λ c. search needs)
-    (λ c. two-no-second (c .before .before .before .before .before .before .peek .ensures) (c .before .before .before .before .first .given .1) (c .before .before .peek2 .ensures) (c .enum-told2 .given .1))
-    (λ c. two-both (c .before .before .before .before .before .before .before .peek .ensures) (c .before .before .before .before .before .first .given .1) (c .before .before .before .peek2 .ensures) (c .before .second .given .1)))
+    (λ c. let first = c .before .before .before .before in
+    two-no-second (first .before .before .peek .ensures) (first .first .given .1) (c .before .before .peek2 .ensures) (c .enum-told2 .given .1))
+    (λ c. let first = c .before .before .before .before .before in
+    two-both (first .before .before .peek .ensures) (first .first .given .1) (c .before .before .before .peek2 .ensures) (c .before .second .given .1)))

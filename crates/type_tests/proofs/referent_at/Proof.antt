@@ -23,9 +23,15 @@ referent-at-spec =
     (λ c. search needs)
     (λ c. search needs)
     (λ c. referent-by (c .before .before .token-at .ensures) (sym (ap referentOf (c .enum-told .given .1))))
-    (λ c. referent-by (c .before .before .before .before .before .token-at .ensures) (sym (ap referentOf (c .before .before .before .wrapper .given .1) ∙ ap (λ (v : Wrapper). referentBy v (c .before .before .before .wrapper .given .0 .1 .0)) (c .enum-told2 .given .1))))
-    (λ c. referent-by (c .before .before .before .before .before .token-at .ensures) (sym (ap referentOf (c .before .before .before .wrapper .given .1) ∙ ap (λ (v : Wrapper). referentBy v (c .before .before .before .wrapper .given .0 .1 .0)) (c .enum-told3 .given .1))))
-    (λ c. referent-by (c .before .before .before .before .before .token-at .ensures) (sym (ap referentOf (c .before .before .before .wrapper .given .1) ∙ ap (λ (v : Wrapper). referentBy v (c .before .before .before .wrapper .given .0 .1 .0)) (c .enum-told4 .given .1))))
+    (λ c. let wrapper = c .before .before .before in
+    referent-by (wrapper .before .before .token-at .ensures)
+    (sym (ap referentOf (wrapper .wrapper .given .1) ∙ ap (λ (v : Wrapper). referentBy v (wrapper .wrapper .given .0 .1 .0)) (c .enum-told2 .given .1))))
+    (λ c. let wrapper = c .before .before .before in
+    referent-by (wrapper .before .before .token-at .ensures)
+    (sym (ap referentOf (wrapper .wrapper .given .1) ∙ ap (λ (v : Wrapper). referentBy v (wrapper .wrapper .given .0 .1 .0)) (c .enum-told3 .given .1))))
+    (λ c. let wrapper = c .before .before .before in
+    referent-by (wrapper .before .before .token-at .ensures)
+    (sym (ap referentOf (wrapper .wrapper .given .1) ∙ ap (λ (v : Wrapper). referentBy v (wrapper .wrapper .given .0 .1 .0)) (c .enum-told4 .given .1))))
     (λ c. referent-by (c .before .before .token-at .ensures) (sym (ap referentOf (c .enum-told5 .given .1))))
     (λ c. referent-by (c .before .before .token-at .ensures) (sym (ap referentOf (c .enum-told6 .given .1))))
     (λ c. referent-by (c .before .before .token-at .ensures) (sym (ap referentOf (c .enum-told7 .given .1)))))

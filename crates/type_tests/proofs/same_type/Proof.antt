@@ -28,5 +28,9 @@ same-type-spec =
     (λ c. same-differs (c .before .before .before .before .loop .i) (c .before .before .before .loop-test .taken) (c .if2 .taken))
     (λ c. omega arith)
     (λ c. omega arith)
-    (λ c. (omega arith, alike-more (c .before .before .before .before .before .before .args .a .now) (c .before .before .before .before .before .before .args .x) (c .before .before .before .before .before .before .args .b .now) (c .before .before .before .before .before .before .args .y) (c .before .before .before .before .loop .i) (c .before .before .before .before .loop .inv .1) (c .if2 .left)))
+    (λ c. let turn = c .before .before .before .before in
+    let start = turn .before .before in (
+      omega arith,
+      alike-more (start .args .a .now) (start .args .x) (start .args .b .now) (start .args .y) (turn .loop .i) (turn .loop .inv .1) (c .if2 .left),
+    ))
     (λ c. same-alike (c .loop-test .left) (c .before .before .if1 .left) (c .before .loop .inv .1)))

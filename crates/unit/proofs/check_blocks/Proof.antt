@@ -23,11 +23,19 @@ check-blocks-spec =
     (λ c κs. c .before .before .before .before .pre .indexed _ (c .loop-test .taken) .0)
     (λ c. omega (arith, block-here (c .before .before .before .before .before .pre) (c .before .loop-test .taken) (c .place-at .ensures) .within))
     (λ c κs. omega (arith, block-here (c .before .before .before .before .before .pre) (c .before .loop-test .taken) (c .place-at .ensures) .within))
-    (λ c. omega (arith, block-here (c .before .before .before .before .before .before .pre) (c .before .before .loop-test .taken) (c .before .place-at .ensures) .within))
-    (λ c κs. omega (arith, block-here (c .before .before .before .before .before .before .pre) (c .before .before .loop-test .taken) (c .before .place-at .ensures) .within))
-    (λ c. tested-falls (c .before .before .before .before .before .loop .inv) (c .before .before .before .before .loop-test .taken) (c .before .before .before .place-at .ensures) (omega (arith, c .before .before .u16-at .ensures, c .before .u16-at2 .ensures)))
-    (λ c. tested-past (c .before .before .before .before .before .before .loop .inv) (c .before .before .before .before .before .loop-test .taken) (c .before .before .before .before .place-at .ensures) (omega (arith, c .before .before .before .u16-at .ensures, c .before .before .u16-at2 .ensures)) (omega (arith, c .before .before .u16-at2 .ensures)))
+    (λ c. let start = c .before .before .before .before .before .before in
+    omega (arith, block-here (start .pre) (c .before .before .loop-test .taken) (c .before .place-at .ensures) .within))
+    (λ c κs. let start = c .before .before .before .before .before .before in
+    omega (arith, block-here (start .pre) (c .before .before .loop-test .taken) (c .before .place-at .ensures) .within))
+    (λ c. let turn = c .before .before .before .before .before in
+    tested-falls (turn .loop .inv) (c .before .before .before .before .loop-test .taken) (c .before .before .before .place-at .ensures)
+    (omega (arith, c .before .before .u16-at .ensures, c .before .u16-at2 .ensures)))
+    (λ c. let turn = c .before .before .before .before .before .before in
+    tested-past (turn .loop .inv) (c .before .before .before .before .before .loop-test .taken) (c .before .before .before .before .place-at .ensures)
+    (omega (arith, c .before .before .before .u16-at .ensures, c .before .before .u16-at2 .ensures)) (omega (arith, c .before .before .u16-at2 .ensures)))
     (λ c. omega arith)
     (λ c. omega arith)
-    (λ c. tested-more (c .before .before .before .before .before .before .loop .inv) (c .before .before .before .before .before .loop-test .taken) (c .before .before .before .before .place-at .ensures) (omega (arith, c .before .before .before .u16-at .ensures, c .before .before .u16-at2 .ensures)) (omega (arith, c .before .before .u16-at2 .ensures)))
+    (λ c. let turn = c .before .before .before .before .before .before in
+    tested-more (turn .loop .inv) (c .before .before .before .before .before .loop-test .taken) (c .before .before .before .before .place-at .ensures)
+    (omega (arith, c .before .before .before .u16-at .ensures, c .before .before .u16-at2 .ensures)) (omega (arith, c .before .before .u16-at2 .ensures)))
     (λ c. tested-all (c .before .loop .inv) (c .loop-test .left)))

@@ -12,11 +12,16 @@ read-spec =
     (λ c. unit-refused _ _ (read-long _ (c .if1 .taken)))
     (λ c. unit-refused _ _ (read-empty _ (c .before .if1 .left) (c .if2 .taken)))
     (λ c. search needs)
-    (λ c κs. first-room (omega arith) (c .before .before .before .before .if1 .left) (c .before .before .before .before .before .before .before .pre (c .before .before .before .before .if1 .left)))
+    (λ c κs. let k = c .before .before .before .before in first-room (omega arith) (k .if1 .left) (k .before .before .before .pre (k .if1 .left)))
     (λ c. search needs)
-    (λ c. read-as _ _ (read-module _ (c .before .before .before .before .before .before .before .if1 .left) (omega (arith, c .before .before .before .before .before .before .if2 .left)) (c .before .before .before .before .if3 .taken)) (c .before .before .read-under .ensures .0) (c .before .before .read-under .ensures .1))
+    (λ c. let k = c .before .before .before .before .before .before in
+    let r = c .before .before .read-under .ensures in
+    read-as _ _ (read-module _ (k .before .if1 .left) (omega (arith, k .if2 .left)) (c .before .before .before .before .if3 .taken)) (r .0) (r .1))
     (λ c. search needs)
-    (λ c κs. first-room (omega arith) (c .before .before .before .before .before .before .if1 .left) (c .before .before .before .before .before .before .before .before .before .pre (c .before .before .before .before .before .before .if1 .left)))
+    (λ c κs. let k = c .before .before .before .before .before .before in first-room (omega arith) (k .if1 .left) (k .before .before .before .pre (k .if1 .left)))
     (λ c. search needs)
-    (λ c. read-as _ _ (read-script _ (c .before .before .before .before .before .before .before .before .before .if1 .left) (omega (arith, c .before .before .before .before .before .before .before .before .if2 .left)) (c .before .before .before .before .if4 .taken)) (c .before .before .read-under2 .ensures .0) (c .before .before .read-under2 .ensures .1))
-    (λ c. unit-refused _ _ (read-unopened _ (c .before .before .before .before .before .if1 .left) (omega (arith, c .before .before .before .before .if2 .left)) (c .before .before .if3 .left) (c .if4 .left))))
+    (λ c. let k = c .before .before .before .before .before .before .before .before in
+    let r = c .before .before .read-under2 .ensures in
+    read-as _ _ (read-script _ (k .before .if1 .left) (omega (arith, k .if2 .left)) (c .before .before .before .before .if4 .taken)) (r .0) (r .1))
+    (λ c. let k = c .before .before .before .before in
+    unit-refused _ _ (read-unopened _ (k .before .if1 .left) (omega (arith, k .if2 .left)) (c .before .before .if3 .left) (c .if4 .left))))

@@ -10,7 +10,8 @@ use Rattle.definitions.specs.Reading.{read, u16}
 use Rattle.definitions.specs.Reader.{instruction}
 use Rattle.record_reader.specs.Ends.{reads-within, instruction-reaches}
 use Rattle.unit.proofs.TableLoop.{got-next, got-refused}
-use Rattle.unit.proofs.CodeLoop.{InCode, u16-next, u16-short, u16-cut, code-start, code-more, code-refused, code-stops, code-stops-in, code-answers-refused, code-answers-read}
+use Rattle.unit.proofs.CodeLoop.{InCode, u16-next, u16-short, u16-cut, code-start, code-more, code-refused, code-stops}
+use Rattle.unit.proofs.CodeLoop.{code-stops-in, code-answers-refused, code-answers-read}
 use Rattle.unit.proofs.read_code.Statement.{statement}
 use Rattle.unit.proofs.read_code.Tie as tie
 

@@ -14,4 +14,6 @@ constant-at-spec =
     (λ c κs. search needs)
     (λ c κs. (table-fits (constants-in (c .before .before .before .before .before .pre)), omega (arith, c .widest .ensures .0)))
     (λ c. search needs)
-    (λ c. λ p. rw (c .before .widest .ensures .0) at (constant-here p (λ i. omega (arith, c .before .before .before .before .before .shared-slice-known .given i)) (omega (arith, c .before .widest .ensures .0)) (c .place .ensures .0))))
+    (λ c. let known = c .before .before .before .before .before in
+    λ p. rw (c .before .widest .ensures .0) at
+    (constant-here p (λ i. omega (arith, known .shared-slice-known .given i)) (omega (arith, c .before .widest .ensures .0)) (c .place .ensures .0))))

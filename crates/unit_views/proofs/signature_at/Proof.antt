@@ -15,4 +15,5 @@ signature-at-spec =
     (λ c κs. (table-fits (signatures-in (c .before .before .before .before .before .pre)), omega (arith, c .widest .ensures .0)))
     (λ c. search needs)
     (λ c κs. signature-room (c .before .before .before .before .before .before .pre) (omega (arith, c .before .widest .ensures .0)) (c .place .ensures .0))
-    (λ c. λ p. rw (c .before .before .widest .ensures .0) at (signature-here p (omega (arith, c .before .before .widest .ensures .0)) (c .before .place .ensures .0) (c .type-list .ensures))))
+    (λ c. λ p. rw (c .before .before .widest .ensures .0) at
+    (signature-here p (omega (arith, c .before .before .widest .ensures .0)) (c .before .place .ensures .0) (c .type-list .ensures))))

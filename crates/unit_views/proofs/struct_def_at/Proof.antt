@@ -16,6 +16,11 @@ struct-def-at-spec =
     (λ c. λ p. def-past p (c .before .before .enum-told2 .given .1) (omega arith))
     (λ c κs. search needs)
     (λ c κs. (table-fits (structDefs-in (c .before .before .before .before .before .before .before .pre)), omega (arith, c .widest .ensures .0)))
-    (λ c κs. let k = def-at (c .before .before .before .before .before .before .before .before .pre) (omega (arith, c .before .widest .ensures .0)) (c .place .ensures .0) in (def-read k .within, k))
+    (λ c κs. let start = c .before .before .before .before .before .before .before .before in
+    let k = def-at (start .pre) (omega (arith, c .before .widest .ensures .0)) (c .place .ensures .0) in
+    (def-read k .within, k))
     (λ c. λ p. def-script p _ (c .enum-told .given .1))
-    (λ c. λ p. rw (c .before .before .widest .ensures .0) at (def-here p (omega (arith, c .before .before .widest .ensures .0)) (c .before .place .ensures .0) (c .before .before .before .before .before .enum-told2 .given .1) (c .struct-def-at .ensures))))
+    (λ c. let told = c .before .before .before .before .before in
+    λ p. rw (c .before .before .widest .ensures .0) at
+    (def-here p (omega (arith, c .before .before .widest .ensures .0)) (c .before .place .ensures .0) (told .enum-told2 .given .1)
+    (c .struct-def-at .ensures))))

@@ -14,7 +14,10 @@ borrow-vector-element-spec =
     (λ c κs. search needs)
     (λ c. search needs)
     (λ c. search needs)
-    (λ c κs. (c .before .before .before .before .before .before .before .before .pre .0, unit-room (c .before .before .before .before .before .before .before .before .pre .1) (c .before .before .before .before .element-type-at .ensures) (c .before .before .declared .given .1)))
+    (λ c κs. let declared = c .before .before in
+    let start = declared .before .before .before .before .before .before in
+    (start .pre .0, unit-room (start .pre .1) (declared .before .before .element-type-at .ensures) (declared .declared .given .1)))
     (λ c p. type-bad (c .before .before .before .element-type-at .ensures p) _ (c .before .status .given .1))
     (λ c. search needs)
-    (λ c p. type-then (c .before .before .before .before .before .before .before .element-type-at .ensures p) _ (c .before .before .before .before .before .declared .given .1) (c .before .before .borrow-declared .ensures)))
+    (λ c p. let declared = c .before .before .before .before .before in
+    type-then (declared .before .before .element-type-at .ensures p) _ (declared .declared .given .1) (c .before .before .borrow-declared .ensures)))

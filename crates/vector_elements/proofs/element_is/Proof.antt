@@ -10,8 +10,10 @@ element-is-spec =
     (tie.spec
     (λ c κs. search needs)
     (λ c. search needs)
-    (λ c. element-room (c .before .before .before .get-vector-element-type .ensures) (c .before .x .given .1) (c .before .before .before .before .before .before .pre .0))
-    (λ c κs. (element-span (c .before .before .before .get-vector-element-type .ensures) (c .before .x .given .1) (c .before .before .before .before .before .before .pre .0), c .before .before .before .before .before .before .pre .1))
+    (λ c. let start = c .before .before .before .before .before .before in
+    element-room (c .before .before .before .get-vector-element-type .ensures) (c .before .x .given .1) (start .pre .0))
+    (λ c κs. let start = c .before .before .before .before .before .before in
+    (element-span (c .before .before .before .get-vector-element-type .ensures) (c .before .x .given .1) (start .pre .0), start .pre .1))
     (λ c. search needs)
     (λ c. element-same (c .before .before .before .before .get-vector-element-type .ensures) (c .before .before .x .given .1) (c .same-type .ensures))
     (λ c. element-not (c .before .before .get-vector-element-type .ensures) (c .enum-told .given .1)))

@@ -12,10 +12,13 @@ get-vector-element-type-spec =
     (λ c κs. search needs)
     (λ c. search needs)
     (λ c. not-mutable (c .before .before .before .before .referent-at .ensures) _ (c .before .before .inner .given .1) (c .if1 .taken))
-    (λ c κs. reference-type (c .before .before .before .before .referent-at .ensures) (c .before .before .inner .given .1) (c .before .before .before .before .before .before .pre))
+    (λ c κs. let inner = c .before .before in
+    let start = inner .before .before .before .before in
+    reference-type (inner .before .before .referent-at .ensures) (inner .inner .given .1) (start .pre))
     (λ c. search needs)
     (λ c κs. mutable-type (c .before .before .before .referent-at .ensures) (c .before .inner2 .given .1) (c .before .before .before .before .before .pre))
     (λ c. search needs)
-    (λ c. by-reference (c .before .before .before .before .before .referent-at .ensures) _ (c .before .before .before .inner .given .1) (c .before .if1 .left) (c .vector-element .ensures))
+    (λ c. let inner = c .before .before .before in
+    by-reference (inner .before .before .referent-at .ensures) _ (inner .inner .given .1) (c .before .if1 .left) (c .vector-element .ensures))
     (λ c. by-mutable (c .before .before .before .before .referent-at .ensures) _ (c .before .before .inner2 .given .1) (c .vector-element2 .ensures))
     (λ c. no-referent (c .before .before .referent-at .ensures) _ (c .enum-told .given .1)))

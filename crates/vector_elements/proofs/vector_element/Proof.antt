@@ -20,9 +20,18 @@ vector-element-spec =
     (λ c. search needs)
     (λ c. search needs)
     (λ c. vector-by (c .before .before .token-at .ensures) (sym (ap vectorElementOf (c .enum-told .given .1))))
-    (λ c. vector-by (c .before .before .before .before .before .token-at .ensures) (sym (ap vectorElementOf (c .before .before .before .wrapper .given .1) ∙ ap (λ (v : Wrapper). elementBy v (c .before .before .before .wrapper .given .0 .1 .0)) (c .enum-told2 .given .1))))
-    (λ c. vector-by (c .before .before .before .before .before .token-at .ensures) (sym (ap vectorElementOf (c .before .before .before .wrapper .given .1) ∙ ap (λ (v : Wrapper). elementBy v (c .before .before .before .wrapper .given .0 .1 .0)) (c .enum-told3 .given .1))))
-    (λ c. vector-by (c .before .before .before .before .before .token-at .ensures) (sym (ap vectorElementOf (c .before .before .before .wrapper .given .1) ∙ ap (λ (v : Wrapper). elementBy v (c .before .before .before .wrapper .given .0 .1 .0)) (c .enum-told4 .given .1))))
+    (λ c. let wrapper = c .before .before .before in
+    vector-by (wrapper .before .before .token-at .ensures)
+    (sym
+    (ap vectorElementOf (wrapper .wrapper .given .1) ∙ ap (λ (v : Wrapper). elementBy v (wrapper .wrapper .given .0 .1 .0)) (c .enum-told2 .given .1))))
+    (λ c. let wrapper = c .before .before .before in
+    vector-by (wrapper .before .before .token-at .ensures)
+    (sym
+    (ap vectorElementOf (wrapper .wrapper .given .1) ∙ ap (λ (v : Wrapper). elementBy v (wrapper .wrapper .given .0 .1 .0)) (c .enum-told3 .given .1))))
+    (λ c. let wrapper = c .before .before .before in
+    vector-by (wrapper .before .before .token-at .ensures)
+    (sym
+    (ap vectorElementOf (wrapper .wrapper .given .1) ∙ ap (λ (v : Wrapper). elementBy v (wrapper .wrapper .given .0 .1 .0)) (c .enum-told4 .given .1))))
     (λ c. vector-by (c .before .before .token-at .ensures) (sym (ap vectorElementOf (c .enum-told5 .given .1))))
     (λ c. vector-by (c .before .before .token-at .ensures) (sym (ap vectorElementOf (c .enum-told6 .given .1))))
     (λ c. vector-by (c .before .before .token-at .ensures) (sym (ap vectorElementOf (c .enum-told7 .given .1)))))

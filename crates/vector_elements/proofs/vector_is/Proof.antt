@@ -11,7 +11,8 @@ vector-is-spec =
     (λ c κs. search needs)
     (λ c. search needs)
     (λ c. vector-room (c .before .before .before .vector-element .ensures) (c .before .x .given .1) (c .before .before .before .before .before .before .pre .0))
-    (λ c κs. (vector-span (c .before .before .before .vector-element .ensures) (c .before .x .given .1) (c .before .before .before .before .before .before .pre .0), c .before .before .before .before .before .before .pre .1))
+    (λ c κs. let start = c .before .before .before .before .before .before in
+    (vector-span (c .before .before .before .vector-element .ensures) (c .before .x .given .1) (start .pre .0), start .pre .1))
     (λ c. search needs)
     (λ c. vector-same (c .before .before .before .before .vector-element .ensures) (c .before .before .x .given .1) (c .same-type .ensures))
     (λ c. vector-not (c .before .before .vector-element .ensures) (c .enum-told .given .1)))

@@ -24,8 +24,11 @@ pop-many-spec =
     (λ c. omega arith)
     (λ c κs. c .before .loop .inv .under)
     (λ c. search needs)
-    (λ c. popping-none (c .before .before .before .before .loop .inv) (c .before .before .peek .ensures) (c .before .before .before .loop-test .taken) (c .enum-told .given .1))
+    (λ c. let turn = c .before .before .before .before in
+    popping-none (turn .loop .inv) (c .before .before .peek .ensures) (c .before .before .before .loop-test .taken) (c .enum-told .given .1))
     (λ c. search needs)
     (λ c. omega arith)
-    (λ c. popping-next (c .before .before .before .before .before .loop .inv) (c .before .before .before .peek .ensures) (c .before .before .before .before .loop-test .taken) (c .before .start .given .1))
+    (λ c. let turn = c .before .before .before .before .before in
+    popping-next (turn .loop .inv) (c .before .before .before .peek .ensures) (c .before .before .before .before .loop-test .taken)
+    (c .before .start .given .1))
     (λ c. popping-end (c .before .loop .inv) (c .loop-test .left)))

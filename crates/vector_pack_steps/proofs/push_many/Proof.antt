@@ -13,6 +13,10 @@ Inv-loop area₀ weight src from to num fit end₀ left₀ area end left = Writi
 abbrev μ-loop : tie.MeasureT-loop
 μ-loop area₀ weight src from to num fit end₀ left₀ area end left = left
 
+-- back from `loop` to the function's entry
+abbrev entry : tie.At-loop Inv-loop μ-loop → tie.Start Inv-loop μ-loop
+entry c = c .before .before .before .before
+
 pub push-many-spec : {M : Type 1} → statement M
 push-many-spec =
     tie.close
@@ -26,8 +30,13 @@ push-many-spec =
     (λ c. many-full _ (c .before .before .before .pre .0) (sym (part-length (c .before .before .before .pre .1))) (c .if1 .taken))
     (λ c. writing-start _ (c .before .before .before .pre .0) (sym (part-length (c .before .before .before .pre .1))) (c .if1 .left))
     (λ c. omega arith)
-    (λ c κs. (c .before .before .before .before .before .before .pre .1, omega (arith, writing-room (c .before .before .loop .inv) (c .before .loop-test .taken), part-length (c .before .before .before .before .before .before .pre .1))))
+    (λ c κs. let turn = c .before .before in
+    let start = entry turn in
+    (start .pre .1, omega (arith, writing-room (turn .loop .inv) (c .before .loop-test .taken), part-length (start .pre .1))))
     (λ c. omega arith)
-    (λ c. writing-next (c .before .before .before .before .before .loop .inv) (c .before .before .before .before .loop-test .taken) (sym (part-length (c .before .before .before .before .before .before .before .before .before .pre .1))) (c .before .before .write-part .ensures .0) (c .before .before .write-part .ensures .1))
+    (λ c. let turn = c .before .before .before .before .before in
+    let start = entry turn in
+    writing-next (turn .loop .inv) (c .before .before .before .before .loop-test .taken) (sym (part-length (start .pre .1)))
+    (c .before .before .write-part .ensures .0) (c .before .before .write-part .ensures .1))
     (λ c. c .before .loop .inv .same)
     (λ c. writing-end (c .before .loop .inv) (c .loop-test .left)))

@@ -12,7 +12,11 @@ named-element-spec =
     (λ c κs. search needs)
     (λ c. search needs)
     (λ c. search needs)
-    (λ c κs. (c .before .before .before .before .before .before .before .pre .0, found-type (c .before .before .before .element-type-at .ensures (c .before .before .before .before .before .before .before .pre .1)) (c .before .declared .given .1)))
-    (λ c p. named-yes _ _ (c .before .before .before .before .before .element-type-at .ensures p) _ (c .before .before .before .declared .given .1) (c .before .element-is .ensures) (c .if1 .taken))
+    (λ c κs. let start = c .before .before .before .before .before .before .before in
+    (start .pre .0, found-type (c .before .before .before .element-type-at .ensures (start .pre .1)) (c .before .declared .given .1)))
+    (λ c p. let declared = c .before .before .before in
+    named-yes _ _ (declared .before .before .element-type-at .ensures p) _ (declared .declared .given .1) (c .before .element-is .ensures)
+    (c .if1 .taken))
     (λ c p. named-none _ _ (c .before .before .before .element-type-at .ensures p) _ (c .before .status .given .1))
-    (λ c p. named-no _ _ (c .before .before .before .before .before .element-type-at .ensures p) _ (c .before .before .before .declared .given .1) (c .before .element-is .ensures) (c .if1 .left)))
+    (λ c p. let declared = c .before .before .before in
+    named-no _ _ (declared .before .before .element-type-at .ensures p) _ (declared .declared .given .1) (c .before .element-is .ensures) (c .if1 .left)))

@@ -15,6 +15,8 @@ call-spec =
     (λ c κs. search needs)
     (λ c κs. search needs)
     (λ c. search needs)
-    (λ c.
-    let h = c .before .before .before .before .before .before .before .before .if1 .left in
-    (c .before .before .before .before .before .before .judge .ensures ∙ area-accepted _ _ _ h, c .before .before .clear .ensures ∙ area-cleared _ (length (c .before .before .before .before .before .before .judge .last .1 .0)) (omega arith) h)))
+    (λ c. let judge = c .before .before .before .before .before .before in
+    let h = judge .before .before .if1 .left in (
+      judge .judge .ensures ∙ area-accepted _ _ _ h,
+      c .before .before .clear .ensures ∙ area-cleared _ (length (judge .judge .last .1 .0)) (omega arith) h,
+    )))

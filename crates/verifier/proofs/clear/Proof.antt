@@ -25,10 +25,12 @@ clear-spec =
     (λ c. c .loop-test .taken)
     (λ c. let e = c .before .loop .inv .2 in omega arith)
     (λ c. let e = c .before .loop .inv .2 in let k = c .loop-test .taken in omega arith)
-    (λ c.
-    let l = c .before in
+    (λ c. let l = c .before in
     let e = l .loop .inv .2 in
-    let k = c .loop-test .taken in
-    (omega arith, ap (λ (x : List ℕ). set x (l .loop .i) 0) (l .loop .inv .1) ∙ fill-more (l .loop .i) 0 (l .before .args .area .now) (omega arith), length-set (l .loop .area) (l .loop .i) 0 ∙ e))
+    let k = c .loop-test .taken in (
+      omega arith,
+      ap (λ (x : List ℕ). set x (l .loop .i) 0) (l .loop .inv .1) ∙ fill-more (l .loop .i) 0 (l .before .args .area .now) (omega arith),
+      length-set (l .loop .area) (l .loop .i) 0 ∙ e,
+    ))
     (λ c. c .before .loop .inv .2)
     (λ c. let v = c .before .loop .inv in let k = c .loop-test .left in v .1 ∙ filled-whole _ (v .0) (rw (v .2) at k)))

@@ -1,6 +1,8 @@
 -- A refusal of the reader with its place; or a unit that was read, and the verdict of the passes over it.
 use mathlib.Core.Path.{refl}
 use native.Mathlib.Omega.{arith}
+use denote.Ref.{now}
+use Rattle.unit.specs.Views.{UnitRead}
 use Rattle.unit.specs.WasRead.{was-read}
 use Rattle.verifier.specs.declared.Passes.{Passes}
 use Rattle.verifier.specs.Judges.{judgeOf}
@@ -11,6 +13,17 @@ use Rattle.verifier.proofs.judge_in.Tie as tie
 
 enum-told : tie.Need-enum-told
 enum-told c = search needs
+
+-- back from `view` to `read`, and from `read` to the function's entry
+abbrev to-read : tie.After-view → tie.After-read
+to-read c = c .before .before .before .before
+
+abbrev entry : tie.After-read → tie.Start
+entry c = c .before .before .before .before .before
+
+-- the unit was read
+unit : (c : tie.After-view) → UnitRead (now (entry (to-read c) .args .s)) (to-read c .read .last .1 .0) (c .view .given .0 .0)
+unit c = was-read _ _ (to-read c .read .ensures .0) (to-read c .read .ensures .1) (c .view .given .1)
 
 pub judge-in-spec : {M : Type 1} → statement M
 unfolding judgeOf
@@ -23,26 +36,32 @@ judge-in-spec =
     (λ c. search needs)
     enum-told
     (λ c. search needs)
-    (λ c κs. was-read _ _ (c .before .before .before .before .before .before .before .before .read .ensures .0) (c .before .before .before .before .before .before .before .before .read .ensures .1) (c .before .before .before .before .view .given .1))
+    (λ c κs. unit (c .before .before .before .before))
     (λ c. search needs)
-    (λ c κs. (c .before .before .before .before .before .before .before .before .before .before .before .before .before .before .pre .0, was-read _ _ (c .before .before .before .before .before .before .before .before .before .read .ensures .0) (c .before .before .before .before .before .before .before .before .before .read .ensures .1) (c .before .before .before .before .before .view .given .1)))
+    (λ c κs. let view = c .before .before .before .before .before in
+    (entry (to-read view) .pre .0, unit view))
     (λ c. search needs)
-    (λ c κs. (c .before .before .before .before .before .before .before .before .before .before .before .before .before .before .pre .0, was-read _ _ (c .before .before .before .before .before .before .before .before .before .read .ensures .0) (c .before .before .before .before .before .before .before .before .before .read .ensures .1) (c .before .before .before .before .before .view .given .1)))
+    (λ c κs. let view = c .before .before .before .before .before in
+    (entry (to-read view) .pre .0, unit view))
     (λ c. search needs)
     (λ c. refused-reading _ (c .before .before .before .before .before .read .ensures .0) (c .before .status .given .1) _)
     (λ c. search needs)
-    (λ c. judged-reading _ (was-read _ _ (c .before .before .before .before .before .before .before .read .ensures .0) (c .before .before .before .before .before .before .before .read .ensures .1) (c .before .before .before .view .given .1)) Passes.None (c .enum-told .given .1) _ refl)
+    (λ c. let view = c .before .before .before in
+    judged-reading _ (unit view) Passes.None (c .enum-told .given .1) _ refl)
     (λ c. search needs)
-    (λ c.
-    let u = was-read _ _ (c .before .before .before .before .before .before .before .before .before .read .ensures .0) (c .before .before .before .before .before .before .before .before .before .read .ensures .1) (c .before .before .before .before .before .view .given .1) in
-    judged-reading _ u Passes.StackUsage (c .before .before .enum-told2 .given .1) _ (c .verify .ensures u))
-    (λ c. search needs)
-    (λ c. search needs)
-    (λ c.
-    let u = was-read _ _ (c .before .before .before .before .before .before .before .before .before .before .before .before .read .ensures .0) (c .before .before .before .before .before .before .before .before .before .before .before .before .read .ensures .1) (c .before .before .before .before .before .before .before .before .view .given .1) in
-    judged-reading _ u Passes.Types (c .before .before .before .before .before .enum-told3 .given .1) _ (c .before .before .verify2 .ensures u))
+    (λ c. let told = c .before .before in
+    let view = told .before .before .before in
+    let u = unit view in
+    judged-reading _ u Passes.StackUsage (told .enum-told2 .given .1) _ (c .verify .ensures u))
     (λ c. search needs)
     (λ c. search needs)
-    (λ c.
-    let u = was-read _ _ (c .before .before .before .before .before .before .before .before .before .before .before .before .read .ensures .0) (c .before .before .before .before .before .before .before .before .before .before .before .before .read .ensures .1) (c .before .before .before .before .before .before .before .before .view .given .1) in
-    judged-reading _ u Passes.Both (c .before .before .before .before .before .enum-told4 .given .1) _ (c .before .before .verify-passes .ensures u)))
+    (λ c. let told = c .before .before .before .before .before in
+    let view = told .before .before .before in
+    let u = unit view in
+    judged-reading _ u Passes.Types (told .enum-told3 .given .1) _ (c .before .before .verify2 .ensures u))
+    (λ c. search needs)
+    (λ c. search needs)
+    (λ c. let told = c .before .before .before .before .before in
+    let view = told .before .before .before in
+    let u = unit view in
+    judged-reading _ u Passes.Both (told .enum-told4 .given .1) _ (c .before .before .verify-passes .ensures u)))

@@ -14,4 +14,5 @@ verify-passes-spec =
     (λ c κs. search needs)
     (λ c p. usage-refused _ _ (c .before .before .before .verify .ensures p) (c .before .status .given .1))
     (λ c. search needs)
-    (λ c p. usage-accepted _ _ (c .before .before .before .before .before .before .verify .ensures p) (c .before .before .before .before .enum-told .given .1) (c .before .before .verify2 .ensures p)))
+    (λ c p. let told = c .before .before .before .before in
+    usage-accepted _ _ (told .before .before .verify .ensures p) (told .enum-told .given .1) (c .before .before .verify2 .ensures p)))

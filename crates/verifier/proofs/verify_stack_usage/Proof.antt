@@ -6,4 +6,9 @@ use Rattle.verifier.proofs.verify_stack_usage.Statement.{statement}
 use Rattle.verifier.proofs.verify_stack_usage.Tie as tie
 
 pub verify-stack-usage-spec : {M : Type 1} → statement M
-verify-stack-usage-spec = tie.close (tie.spec (λ c κs. search needs) (λ c. search needs) (λ c. (c .before .before .call .ensures .0 ∙ usage-called _ _, c .before .before .call .ensures .1)))
+verify-stack-usage-spec =
+    tie.close
+    (tie.spec
+    (λ c κs. search needs)
+    (λ c. search needs)
+    (λ c. (c .before .before .call .ensures .0 ∙ usage-called _ _, c .before .before .call .ensures .1)))

@@ -6,4 +6,9 @@ use Rattle.verifier.proofs.verify_types.Statement.{statement}
 use Rattle.verifier.proofs.verify_types.Tie as tie
 
 pub verify-types-spec : {M : Type 1} → statement M
-verify-types-spec = tie.close (tie.spec (λ c κs. search needs) (λ c. search needs) (λ c. (c .before .before .call .ensures .0 ∙ types-called _ _, c .before .before .call .ensures .1)))
+verify-types-spec =
+    tie.close
+    (tie.spec
+    (λ c κs. search needs)
+    (λ c. search needs)
+    (λ c. (c .before .before .call .ensures .0 ∙ types-called _ _, c .before .before .call .ensures .1)))
