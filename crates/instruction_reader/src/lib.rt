@@ -117,9 +117,10 @@ pub fn read_instruction(s: &[u8], at: usize, widths: &[u8]) -> ReadTo
     if 71 <= opcode {
         return ReadTo::Refused(StatusCode::COMMAND, at);
     }
+    let operands = at + 1;
     let width = wide(widths[opcode]);
-    if s.len() - at < 1 + width {
+    if s.len() - operands < width {
         return ReadTo::Refused(StatusCode::SHORT, s.len());
     }
-    ReadTo::Next(at + 1 + width)
+    ReadTo::Next(operands + width)
 }
