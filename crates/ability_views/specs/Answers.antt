@@ -3,7 +3,7 @@ use mathlib.Core.List.{List, map}
 use mathlib.Core.Path.{_≡_}
 use Prim.Native.Nat.{ℕ, _+_, _-_, _≤_}
 use lib.ListN.{length, take, drop}
-use Rattle.definitions.specs.Result.{Result, ok, err}
+use Rattle.definitions.specs.Result.{Result}
 use Rattle.definitions.specs.SignatureToken.{SignatureToken}
 use Rattle.definitions.specs.CompiledUnit as defs
 use Rattle.definitions.specs.Abilities as defs-abilities
@@ -11,6 +11,7 @@ use Rattle.file_format.specs.AbilitySet.{isPhantomByte, abilitiesAnswer}
 use Rattle.file_format.specs.declared.Abilities.{Abilities}
 use Rattle.definitions.specs.Reader.{structHandle}
 use Rattle.definitions.specs.Places.{TableAt}
+use Rattle.unit_tables.specs.Found.{FoundAs, RefusedAs}
 use Rattle.ability_views.specs.declared.AbilityContext.{AbilityContext}
 use Rattle.ability_views.specs.declared.StructHandle.{StructHandle}
 use Rattle.ability_views.specs.declared.StructHandleResult.{StructHandleResult}
@@ -25,10 +26,8 @@ pub record HandleIs (s : List ℕ) (h : defs.StructHandle) (r : StructHandle) : 
   pub phantoms : map isPhantomByte (take (r .count) (drop (r .parameters) s)) ≡ map defs-abilities.isPhantomOf (h .typeParameters)
 
 abbrev pub structHandleAnswer : List ℕ → StructHandleResult → Result defs.StructHandle → Type 0
-structHandleAnswer s (StructHandleResult.Found r) (ok h) = HandleIs s h r
-structHandleAnswer s (StructHandleResult.Found r) (err w) = ⊥
-structHandleAnswer s (StructHandleResult.Refused v) (ok h) = ⊥
-structHandleAnswer s (StructHandleResult.Refused v) (err w) = v ≡ w
+structHandleAnswer s (StructHandleResult.Found r) = FoundAs (λ h. HandleIs s h r)
+structHandleAnswer s (StructHandleResult.Refused v) = RefusedAs v
 
 pub record StructHandleIs (s : List ℕ) (x : Result defs.StructHandle) (r : StructHandleResult) : Type 0 where
   pub is : structHandleAnswer s r x

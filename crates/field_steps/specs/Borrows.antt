@@ -5,7 +5,7 @@ use mathlib.Core.Bool.{Bool, true, false}
 use mathlib.Core.Path.{_≡_}
 use Prim.Native.Nat.{ℕ}
 use Rattle.status.specs.declared.StatusCode.the-variants.{«BORROWFIELD_TYPE_MISMATCH_ERROR», «BORROWFIELD_BAD_FIELD_ERROR»}
-use Rattle.definitions.specs.Result.{Result, ok, err, _>>?_, at}
+use Rattle.definitions.specs.Result.{Result, ok, _>>?_, at}
 use Rattle.definitions.specs.SignatureToken.{SignatureToken, Signature, same}
 use Rattle.definitions.specs.CompiledUnit as defs
 use Rattle.definitions.specs.Substitution.{materializeType, instantiate, referenceTo}
@@ -19,6 +19,7 @@ use Rattle.type_tests.specs.declared.Referent.{Referent}
 use Rattle.type_tests.specs.declared.Referent.the-variants as kind
 use Rattle.type_stack.specs.Stepping.{StepsTo}
 use Rattle.type_stack.specs.declared.Stepped.{Stepped}
+use Rattle.unit_tables.specs.Found.{FoundAs, RefusedAs}
 use Rattle.unit_views.specs.Answers.{TypeIs}
 use Rattle.unit_views.specs.declared.TypeResult.{TypeResult}
 use Rattle.field_steps.specs.declared.Borrowed.{Borrowed}
@@ -58,10 +59,8 @@ pub record OwnerAnswers (s : List ℕ) (o : FieldOwner) (r : Owner) : Type 0 whe
   pub field : r .field ≡ o .field
 
 abbrev pub ownerAnswer : List ℕ → OwnerResult → Result FieldOwner → Type 0
-ownerAnswer s (Found r) (ok o) = OwnerAnswers s o r
-ownerAnswer s (Found r) (err w) = ⊥
-ownerAnswer s (Refused v) (ok o) = ⊥
-ownerAnswer s (Refused v) (err w) = v ≡ w
+ownerAnswer s (Found r) = FoundAs (λ o. OwnerAnswers s o r)
+ownerAnswer s (Refused v) = RefusedAs v
 
 pub record OwnerIs (s : List ℕ) (x : Result FieldOwner) (r : OwnerResult) : Type 0 where
   pub is : ownerAnswer s r x

@@ -14,10 +14,10 @@ use Rattle.handle_views.specs.declared.FieldHandle.{FieldHandle}
 use Rattle.handle_views.specs.declared.FieldHandleResult.{FieldHandleResult}
 use Rattle.unit_views.specs.declared.StructDefResult.{StructDefResult}
 use Rattle.handle_views.specs.Answers.{fieldHandleAnswer}
-use Rattle.unit_views.specs.Answers.{StructDefIs}
+use Rattle.unit_tables.specs.Found.{what-found, why-refused}
+use Rattle.unit_views.specs.Answers.{StructDefIs, def-found, def-refused}
 use Rattle.handle_views.specs.Told.{field-handle, is-told}
-use Rattle.unit_views.specs.Answers.{def-found, def-refused}
-use Rattle.field_steps.specs.Borrows.{FieldOwner, fieldOwner, OwnerAnswers, ownerAnswer, OwnerIs, OwnerAt}
+use Rattle.field_steps.specs.Borrows.{FieldOwner, fieldOwner, OwnerAnswers, OwnerIs, OwnerAt}
 use Rattle.field_steps.specs.declared.Owner.{Owner}
 use Rattle.field_steps.specs.declared.OwnerResult.{OwnerResult}
 use Rattle.field_steps.specs.declared.OwnerResult.the-variants.{Found, Refused}
@@ -45,18 +45,10 @@ module _ {s : List ℕ} (u : defs.CompiledUnit) (idx : ℕ) {r : FieldHandleResu
 
 module _ {s : List ℕ} {x : Result FieldOwner} {r : OwnerResult} (w : OwnerIs s x r) where
   owner-found : {o : Owner} → r ≡ Found o → (f : FieldOwner) × (x ≡ ok f) × OwnerAnswers s f o
-  owner-found {o} e = go x (rw e at (w .is))
-    where
-      go : (y : Result FieldOwner) → ownerAnswer s (Found o) y → (f : FieldOwner) × (y ≡ ok f) × OwnerAnswers s f o
-      go (ok f) k = (f, refl, k)
-      go (err z) k = absurd k
+  owner-found e = what-found x (rw e at (w .is))
 
   owner-refused : {v : StatusCode} → r ≡ Refused v → x ≡ err v
-  owner-refused {v} e = go x (rw e at (w .is))
-    where
-      go : (y : Result FieldOwner) → ownerAnswer s (Refused v) y → y ≡ err v
-      go (ok f) k = absurd k
-      go (err z) k = rw k refl
+  owner-refused e = why-refused x (rw e at (w .is))
 
   pub found-owner : {o : Owner} → r ≡ Found o → OwnerAt s o
   found-owner e = let n = owner-found e in record { owner = n .0; are = n .2 }

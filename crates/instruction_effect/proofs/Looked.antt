@@ -23,7 +23,7 @@ use Rattle.unit.specs.declared.View.{View}
 use Rattle.unit.specs.Views.{UnitRead}
 use Rattle.code_views.specs.Answers.{opcodeByte, InstructionAt, OpcodeAt}
 use Rattle.code_views.specs.Lookups.{opcode-is}
-use Rattle.unit_views.specs.Answers.{SignatureIs, signatureAnswer, StructDefIs, structDefAnswer}
+use Rattle.unit_views.specs.Answers.{SignatureIs, signature-found, signature-refused, StructDefIs, def-found, def-refused}
 use Rattle.instruction_effect.specs.declared.Effect.{Effect}
 use Rattle.instruction_effect.specs.declared.EffectResult.{EffectResult}
 use Rattle.instruction_effect.specs.Effects.{looksUp, PairOf, EntryOf}
@@ -50,14 +50,8 @@ signatureCount (SignatureResult.Refused w) = err w
 pub signature-told :
     {s : List ℕ} {x : Result Signature} {r : SignatureResult} (v : SignatureResult) → SignatureIs s x r → r ≡ v →
     signatureCount v ≡ (x >>? λ types. ok (length types))
-unfolding _>>?_
-signature-told {s} {x} v a e = go v x (rw e at (a .is))
-  where
-    go : (v : SignatureResult) (x : Result Signature) → signatureAnswer s v x → signatureCount v ≡ (x >>? λ types. ok (length types))
-    go (SignatureResult.Found l) (ok ts) k = ap ok (k .counted)
-    go (SignatureResult.Found l) (err w) k = absurd k
-    go (SignatureResult.Refused w) (ok ts) k = absurd k
-    go (SignatureResult.Refused w) (err w′) k = ap err k
+signature-told (SignatureResult.Found l) a e = let (ts, is, k) = signature-found a e in found _ (sym is) (ap ok (k .counted))
+signature-told (SignatureResult.Refused w) a e = refused _ (sym (signature-refused a e))
 
 -- how many fields a struct counts, by the look-up's answer
 abbrev countOf : Fields → ℕ
@@ -68,23 +62,19 @@ abbrev structFieldCount : StructDefResult → Result ℕ
 structFieldCount (StructDefResult.Found d) = ok (countOf (d .fields))
 structFieldCount (StructDefResult.Refused w) = err w
 
+fields-counted : (s : List ℕ) (f : Fields) (x : StructFieldInformation) → FieldsAre s x f → countOf f ≡ fieldCount x
+fields-counted s Fields.Native Native k = refl
+fields-counted s Fields.Native (Declared ts) k = absurd k
+fields-counted s (Fields.Declared l) Native k = absurd k
+fields-counted s (Fields.Declared l) (Declared ts) k = k .counted
+
 pub definition-told :
     {s : List ℕ} {x : Result StructDefinition} {r : StructDefResult} (v : StructDefResult) → StructDefIs s x r → r ≡ v →
     structFieldCount v ≡ (x >>? λ def. ok (fieldCount (def .fieldInformation)))
-unfolding _>>?_
-definition-told {s} {x} v a e = go v x (rw e at (a .is))
-  where
-    fields : (f : Fields) (x : StructFieldInformation) → FieldsAre s x f → countOf f ≡ fieldCount x
-    fields Fields.Native Native k = refl
-    fields Fields.Native (Declared ts) k = absurd k
-    fields (Fields.Declared l) Native k = absurd k
-    fields (Fields.Declared l) (Declared ts) k = k .counted
-
-    go : (v : StructDefResult) (x : Result StructDefinition) → structDefAnswer s v x → structFieldCount v ≡ (x >>? λ def. ok (fieldCount (def .fieldInformation)))
-    go (StructDefResult.Found d) (ok x) k = ap ok (fields (d .fields) (x .fieldInformation) (k .fields))
-    go (StructDefResult.Found d) (err w) k = absurd k
-    go (StructDefResult.Refused w) (ok x) k = absurd k
-    go (StructDefResult.Refused w) (err w′) k = ap err k
+definition-told {s} (StructDefResult.Found d) a e =
+    let (def, is, k) = def-found a e in
+    found _ (sym is) (ap ok (fields-counted s (d .fields) (def .fieldInformation) (k .fields)))
+definition-told (StructDefResult.Refused w) a e = refused _ (sym (def-refused a e))
 
 -- ── calls ──
 

@@ -19,6 +19,7 @@ use Rattle.handle_views.specs.declared.StructDefInstantiation.{StructDefInstant
 use Rattle.unit_views.specs.declared.SignatureResult.{SignatureResult}
 use Rattle.unit_views.specs.declared.StructDefResult.{StructDefResult}
 use Rattle.handle_views.specs.declared.StructInstantiationResult.{StructInstantiationResult}
+use Rattle.unit_tables.specs.Found.{FoundAs, RefusedAs, what-found, why-refused}
 use Rattle.unit_views.specs.Answers.{SignatureIs, signature-found, signature-refused, StructDefIs, def-found, def-refused}
 use Rattle.handle_views.specs.Answers.{structInstantiationAnswer}
 use Rattle.handle_views.specs.Told.{struct-instantiation, is-told}
@@ -31,10 +32,8 @@ pub record WithIs (s : List ℕ) (d : defs.StructWith) (r : StructWith) : Type 0
   pub args : ListIs s (d .typeArgs) (r .«type_args»)
 
 abbrev pub structWithAnswer : List ℕ → StructWithResult → Result defs.StructWith → Type 0
-structWithAnswer s (Found r) (ok d) = WithIs s d r
-structWithAnswer s (Found r) (err w) = ⊥
-structWithAnswer s (Refused v) (ok d) = ⊥
-structWithAnswer s (Refused v) (err w) = v ≡ w
+structWithAnswer s (Found r) = FoundAs (λ d. WithIs s d r)
+structWithAnswer s (Refused v) = RefusedAs v
 
 -- r says where the struct of x and its type arguments stand, or why there is none
 pub record StructWithIs (s : List ℕ) (x : Result defs.StructWith) (r : StructWithResult) : Type 0 where
@@ -97,18 +96,10 @@ module _ {s : List ℕ} (u : defs.CompiledUnit) (i : ℕ) {r : StructInstantiati
 
 module _ {s : List ℕ} {x : Result defs.StructWith} {r : StructWithResult} (w : StructWithIs s x r) where
   pub struct-found : {d : StructWith} → r ≡ Found d → (e : defs.StructWith) × (x ≡ ok e) × WithIs s e d
-  struct-found {d} e = go x (rw e at (w .is))
-    where
-      go : (y : Result defs.StructWith) → structWithAnswer s (Found d) y → (e : defs.StructWith) × (y ≡ ok e) × WithIs s e d
-      go (ok t) k = (t, refl, k)
-      go (err z) k = absurd k
+  struct-found e = what-found x (rw e at (w .is))
 
   pub struct-refused : {v : StatusCode} → r ≡ Refused v → x ≡ err v
-  struct-refused {v} e = go x (rw e at (w .is))
-    where
-      go : (y : Result defs.StructWith) → structWithAnswer s (Refused v) y → y ≡ err v
-      go (ok t) k = absurd k
-      go (err z) k = rw k refl
+  struct-refused e = why-refused x (rw e at (w .is))
 
   -- and a step's program: it goes on with the struct that was found, or it is refused
   pub struct-then :

@@ -9,7 +9,7 @@ use native.Mathlib.Omega.{arith}
 use lib.Dec.{T, ltb, eqb}
 use lib.ListN.{length, getElem?}
 use Rattle.status.specs.declared.StatusCode.{StatusCode}
-use Rattle.status.specs.declared.StatusCode.the-variants.{«PACK_TYPE_MISMATCH_ERROR»}
+use Rattle.status.specs.declared.StatusCode.the-variants.{«OUT_OF_TABLE», «PACK_TYPE_MISMATCH_ERROR»}
 use Rattle.status.specs.Verdict.{statusNumber}
 use Rattle.definitions.specs.Result.{Result, ok, err, _>>?_, orErr, at}
 use Rattle.definitions.specs.AbilitySet.{AbilitySet, polymorphicAbilities}
@@ -20,17 +20,21 @@ use Rattle.definitions.specs.Substitution.{instantiate, instantiateAll, instant
 use Rattle.definitions.specs.TypeSafety.{declaredFields, typeFieldsSignature}
 use Rattle.theorems.specs.Numbers.{tableRefusal, lookRefusal, table-look}
 
--- the result, where it is refused, is refused with a number that is allowed
-pub record RefusesOnly (allowed : ℕ → Bool) {A : Type 0} (r : Result A) : Type 0 where
-  pub refuses : (w : StatusCode) → r ≡ err w → T (allowed (statusNumber w))
+-- the result, where it is refused, is refused with a status that is allowed
+pub record RefusesOnly (Allowed : StatusCode → Type 0) {A : Type 0} (r : Result A) : Type 0 where
+  pub refuses : (w : StatusCode) → r ≡ err w → Allowed w
+
+-- it is refused with one of some numbers
+abbrev pub RefusesAmong : (ℕ → Bool) → {A : Type 0} → Result A → Type 0
+RefusesAmong allowed r = RefusesOnly (λ w. T (allowed (statusNumber w))) r
 
 -- a look-up in the unit's tables
 abbrev pub Tabled : {A : Type 0} → Result A → Type 0
-Tabled r = RefusesOnly tableRefusal r
+Tabled r = RefusesAmong tableRefusal r
 
 -- a look-up of a step
 abbrev pub LooksUp : {A : Type 0} → Result A → Type 0
-LooksUp r = RefusesOnly lookRefusal r
+LooksUp r = RefusesAmong lookRefusal r
 
 -- ── results that were used ──
 
@@ -66,31 +70,31 @@ at-member (b ∷ l) (suc i) a e = List·Memᴰ·tail (at-member l i a e)
 
 -- ── one law for each way that a result is made ──
 
-pub only-ok : {allowed : ℕ → Bool} {A : Type 0} {a : A} → RefusesOnly allowed (ok a)
+pub only-ok : {Allowed : StatusCode → Type 0} {A : Type 0} {a : A} → RefusesOnly Allowed (ok a)
 only-ok = record { refuses = λ w e. never-err e }
 
-pub only-err : {allowed : ℕ → Bool} {A : Type 0} {w : StatusCode} → T (allowed (statusNumber w)) → RefusesOnly allowed {A = A} (err w)
-only-err {allowed} {A} {w} t = record { refuses = λ v e. let k : w ≡ v = cc in rw (← k) t }
+pub only-err : {Allowed : StatusCode → Type 0} {A : Type 0} {w : StatusCode} → Allowed w → RefusesOnly Allowed {A = A} (err w)
+only-err {Allowed} {A} {w} t = record { refuses = λ v e. let k : w ≡ v = cc in rw (← k) t }
 
-pub only-then : {allowed : ℕ → Bool} {A B : Type 0} (r : Result A) {f : A → Result B} →
-    RefusesOnly allowed r → ((a : A) → RefusesOnly allowed (f a)) → RefusesOnly allowed (r >>? f)
+pub only-then : {Allowed : StatusCode → Type 0} {A B : Type 0} (r : Result A) {f : A → Result B} →
+    RefusesOnly Allowed r → ((a : A) → RefusesOnly Allowed (f a)) → RefusesOnly Allowed (r >>? f)
 unfolding _>>?_
 only-then (ok a) h k = k a
 only-then (err w) h k = only-err (h .refuses w refl)
 
-pub only-or : {allowed : ℕ → Bool} {A : Type 0} (w : StatusCode) (o : Option A) → T (allowed (statusNumber w)) → RefusesOnly allowed (orErr w o)
+pub only-or : {Allowed : StatusCode → Type 0} {A : Type 0} (w : StatusCode) (o : Option A) → Allowed w → RefusesOnly Allowed (orErr w o)
 only-or w none t = only-err t
 only-or w (some a) t = only-ok
 
-pub only-at : {allowed : ℕ → Bool} {A : Type 0} (l : List A) (i : ℕ) → T (allowed 11) → RefusesOnly allowed (at l i)
+pub only-at : {Allowed : StatusCode → Type 0} {A : Type 0} (l : List A) (i : ℕ) → Allowed «OUT_OF_TABLE» → RefusesOnly Allowed (at l i)
 unfolding at
 only-at l i t = only-or _ (getElem? l i) t
 
-pub only-declared : {allowed : ℕ → Bool} (w : StatusCode) (i : StructFieldInformation) → T (allowed (statusNumber w)) → RefusesOnly allowed (declaredFields w i)
+pub only-declared : {Allowed : StatusCode → Type 0} (w : StatusCode) (i : StructFieldInformation) → Allowed w → RefusesOnly Allowed (declaredFields w i)
 only-declared w Native t = only-err t
 only-declared w (Declared fields) t = only-ok
 
-only-cond : {allowed : ℕ → Bool} {A : Type 0} (b : Bool) {r r′ : Result A} → RefusesOnly allowed r → RefusesOnly allowed r′ → RefusesOnly allowed (cond b r r′)
+only-cond : {Allowed : StatusCode → Type 0} {A : Type 0} (b : Bool) {r r′ : Result A} → RefusesOnly Allowed r → RefusesOnly Allowed r′ → RefusesOnly Allowed (cond b r r′)
 only-cond true h h′ = h
 only-cond false h h′ = h′
 
@@ -186,11 +190,12 @@ pub only-abilities : (u : CompiledUnit) (t : SignatureToken) → LooksUp (abilit
 unfolding abilities
 only-abilities u t = only-abilitiesIn _ _ t
 
-module _ (σ : Signature) where
+-- a parameter past the arguments is the only way that a type is not instantiated
+module _ (σ : Signature) {Allowed : StatusCode → Type 0} (past : Allowed «OUT_OF_TABLE») where
   mutual
     unfolding instantiate instantiateAll
 
-    pub only-instantiate : (t : SignatureToken) → LooksUp (instantiate t σ)
+    pub only-instantiate : (t : SignatureToken) → RefusesOnly Allowed (instantiate t σ)
     only-instantiate Bool′ = only-ok
     only-instantiate U8 = only-ok
     only-instantiate U64 = only-ok
@@ -202,17 +207,17 @@ module _ (σ : Signature) where
     only-instantiate (StructInstantiation h ts) = only-then _ (only-instantiateAll ts) λ a. only-ok
     only-instantiate (Reference t) = only-then _ (only-instantiate t) λ a. only-ok
     only-instantiate (MutableReference t) = only-then _ (only-instantiate t) λ a. only-ok
-    only-instantiate (TypeParameter i) = only-at σ i tt
+    only-instantiate (TypeParameter i) = only-at σ i past
 
-    only-instantiateAll : (ts : SignatureTokens) → LooksUp (instantiateAll ts σ)
+    only-instantiateAll : (ts : SignatureTokens) → RefusesOnly Allowed (instantiateAll ts σ)
     only-instantiateAll []ᵗ = only-ok
     only-instantiateAll (t ∷ᵗ ts) = only-then _ (only-instantiate t) λ a. only-then _ (only-instantiateAll ts) λ b. only-ok
 
-  only-instantiateEach : (ts : Signature) → LooksUp (instantiateEach ts σ)
+  pub only-instantiateEach : (ts : Signature) → RefusesOnly Allowed (instantiateEach ts σ)
   unfolding instantiateEach
   only-instantiateEach [] = only-ok
   only-instantiateEach (t ∷ ts) = only-then _ (only-instantiate t) λ a. only-then _ (only-instantiateEach ts) λ b. only-ok
 
 pub only-fields : (s : StructWith) → LooksUp (typeFieldsSignature s)
 unfolding typeFieldsSignature
-only-fields s = only-then _ (only-declared «PACK_TYPE_MISMATCH_ERROR» (s .def .fieldInformation) tt) λ fields. only-instantiateEach (s .typeArgs) fields
+only-fields s = only-then _ (only-declared «PACK_TYPE_MISMATCH_ERROR» (s .def .fieldInformation) tt) λ fields. only-instantiateEach (s .typeArgs) tt fields

@@ -13,7 +13,7 @@ use Rattle.definitions.specs.CompiledUnit.{CompiledUnit, Block}
 use Rattle.definitions.specs.StackUsage.{Effect, instructionsOf, instructionEffect, require, heightAfter, heightOver, atBlockEnd, verifyBlock}
 use Rattle.definitions.specs.Verify.{afterBlock, usageOver, stackUsage, Walked, stands, stopped, walk, walkVerdict, typeSafety}
 use Rattle.theorems.specs.Numbers.{usageRefusal, typeNumber, usageNumber, table-usage, step-type, usage-number}
-use Rattle.theorems.specs.Lookups.{RefusesOnly, only-ok, only-err, only-then}
+use Rattle.theorems.specs.Lookups.{RefusesAmong, only-ok, only-err, only-then}
 use Rattle.theorems.specs.All.{none}
 use Rattle.theorems.specs.Kept.{Kept}
 use Rattle.theorems.specs.Steps.{step-sound}
@@ -45,7 +45,7 @@ typeStatuses u area = go (walk u area (u .blocks) []) (walk-ends u area (kept-an
 -- ── stack usage ──
 
 abbrev InUsage : {A : Type 0} → Result A → Type 0
-InUsage r = RefusesOnly usageRefusal r
+InUsage r = RefusesAmong usageRefusal r
 
 only-require : {A : Type 0} (b : Bool) (w : StatusCode) {r : Result A} → T (usageRefusal (statusNumber w)) → InUsage r → InUsage (require b w r)
 unfolding require

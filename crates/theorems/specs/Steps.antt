@@ -81,7 +81,7 @@ module _ (u : CompiledUnit) {I : SignatureToken → Type 0} (k : Kept u I) where
       popping λ x ix. checking _ _ tt λ _. looking (tabled (only-fieldHandle u _)) λ f _. looking (tabled (only-structDef u _)) λ d ed.
       looking (only-or «BORROWFIELD_TYPE_MISMATCH_ERROR» (inner x) tt) λ r _. checking _ _ tt λ _.
       looking (only-declared «BORROWFIELD_BAD_FIELD_ERROR» (d .fieldInformation) tt) λ fs efs. looking (only-at fs _ tt) λ t et.
-      looking (only-instantiate σ t) λ t′ et′.
+      looking (only-instantiate σ tt t) λ t′ et′.
       pushing _ (k .reference mut (instantiated args (field _ ed (declared-is _ _ _ efs) (at-member _ _ _ et)) et′))
 
   sound-borrowFieldGeneric : (mut : Bool) (i : ℕ) → S 1 1 (borrowFieldGeneric u mut i)
@@ -108,8 +108,8 @@ module _ (u : CompiledUnit) {I : SignatureToken → Type 0} (k : Kept u I) where
   unfolding callEffect call
   sound-call h {σ} args = shared (only-signature u _) λ ps _. chosen (only-signature u _) [] _ λ rs agrees.
       counted (omega (arith, length-reverse ps)) refl
-      (then (sound-popEach _ tt _ (only-instantiate σ) (reverse ps)) λ _. looking (tabled (only-signature u _)) λ rs′ ers.
-      counted refl (ap length (agrees rs′ ers)) (sound-pushEach _ rs′ (only-instantiate σ) λ a b m e. k .made (instantiated args (signature _ ers m) e)))
+      (then (sound-popEach _ tt _ (only-instantiate σ tt) (reverse ps)) λ _. looking (tabled (only-signature u _)) λ rs′ ers.
+      counted refl (ap length (agrees rs′ ers)) (sound-pushEach _ rs′ (only-instantiate σ tt) λ a b m e. k .made (instantiated args (signature _ ers m) e)))
 
   only-callEffect : (h : FunctionHandle) → Tabled (callEffect u h)
   unfolding callEffect

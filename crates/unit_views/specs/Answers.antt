@@ -1,12 +1,13 @@
 -- How the answers of the look-ups stand for those of the definitions.
 use mathlib.Core.List.{List}
-use mathlib.Core.Path.{_≡_, refl}
+use mathlib.Core.Path.{_≡_}
 use Prim.Native.Nat.{ℕ}
 use Rattle.status.specs.declared.StatusCode.{StatusCode}
 use Rattle.definitions.specs.Result.{Result, ok, err, at}
 use Rattle.definitions.specs.SignatureToken.{SignatureToken, Signature, encode}
 use Rattle.definitions.specs.CompiledUnit as defs
 use Rattle.definitions.specs.Places.{At}
+use Rattle.unit_tables.specs.Found.{FoundAs, RefusedAs, what-found, why-refused}
 use Rattle.record_views.specs.Records.{ListIs, DefIs}
 use Rattle.record_views.specs.declared.TypeList.{TypeList}
 use Rattle.record_views.specs.declared.StructDef.{StructDef}
@@ -15,29 +16,23 @@ use Rattle.unit_views.specs.declared.SignatureResult.{SignatureResult}
 use Rattle.unit_views.specs.declared.StructDefResult.{StructDefResult}
 
 abbrev pub typeAnswer : List ℕ → TypeResult → Result SignatureToken → Type 0
-typeAnswer s (TypeResult.Found x) (ok t) = At s x (encode t)
-typeAnswer s (TypeResult.Found x) (err w) = ⊥
-typeAnswer s (TypeResult.Refused v) (ok t) = ⊥
-typeAnswer s (TypeResult.Refused v) (err w) = v ≡ w
+typeAnswer s (TypeResult.Found x) = FoundAs (λ t. At s x (encode t))
+typeAnswer s (TypeResult.Refused v) = RefusedAs v
 
 -- r says where the type of x stands, or why there is none
 pub record TypeIs (s : List ℕ) (x : Result SignatureToken) (r : TypeResult) : Type 0 where
   pub is : typeAnswer s r x
 
 abbrev pub signatureAnswer : List ℕ → SignatureResult → Result Signature → Type 0
-signatureAnswer s (SignatureResult.Found l) (ok ts) = ListIs s ts l
-signatureAnswer s (SignatureResult.Found l) (err w) = ⊥
-signatureAnswer s (SignatureResult.Refused v) (ok ts) = ⊥
-signatureAnswer s (SignatureResult.Refused v) (err w) = v ≡ w
+signatureAnswer s (SignatureResult.Found l) = FoundAs (λ ts. ListIs s ts l)
+signatureAnswer s (SignatureResult.Refused v) = RefusedAs v
 
 pub record SignatureIs (s : List ℕ) (x : Result Signature) (r : SignatureResult) : Type 0 where
   pub is : signatureAnswer s r x
 
 abbrev pub structDefAnswer : List ℕ → StructDefResult → Result defs.StructDefinition → Type 0
-structDefAnswer s (StructDefResult.Found r) (ok d) = DefIs s d r
-structDefAnswer s (StructDefResult.Found r) (err w) = ⊥
-structDefAnswer s (StructDefResult.Refused v) (ok d) = ⊥
-structDefAnswer s (StructDefResult.Refused v) (err w) = v ≡ w
+structDefAnswer s (StructDefResult.Found r) = FoundAs (λ d. DefIs s d r)
+structDefAnswer s (StructDefResult.Refused v) = RefusedAs v
 
 pub record StructDefIs (s : List ℕ) (x : Result defs.StructDefinition) (r : StructDefResult) : Type 0 where
   pub is : structDefAnswer s r x
@@ -47,45 +42,21 @@ pub record StructDefIs (s : List ℕ) (x : Result defs.StructDefinition) (r : St
 module _ {s : List ℕ} {x : Result SignatureToken} {r : TypeResult} (w : TypeIs s x r) where
   -- the type that was found
   pub type-found : {p : ℕ} → r ≡ TypeResult.Found p → (t : SignatureToken) × (x ≡ ok t) × At s p (encode t)
-  type-found {p} e = go x (rw e at (w .is))
-    where
-      go : (y : Result SignatureToken) → typeAnswer s (TypeResult.Found p) y → (t : SignatureToken) × (y ≡ ok t) × At s p (encode t)
-      go (ok t) k = (t, refl, k)
-      go (err z) k = absurd k
+  type-found e = what-found x (rw e at (w .is))
 
   pub type-refused : {v : StatusCode} → r ≡ TypeResult.Refused v → x ≡ err v
-  type-refused {v} e = go x (rw e at (w .is))
-    where
-      go : (y : Result SignatureToken) → typeAnswer s (TypeResult.Refused v) y → y ≡ err v
-      go (ok t) k = absurd k
-      go (err z) k = rw k refl
+  type-refused e = why-refused x (rw e at (w .is))
 
 module _ {s : List ℕ} {x : Result Signature} {r : SignatureResult} (w : SignatureIs s x r) where
   pub signature-found : {l : TypeList} → r ≡ SignatureResult.Found l → (ts : Signature) × (x ≡ ok ts) × ListIs s ts l
-  signature-found {l} e = go x (rw e at (w .is))
-    where
-      go : (y : Result Signature) → signatureAnswer s (SignatureResult.Found l) y → (ts : Signature) × (y ≡ ok ts) × ListIs s ts l
-      go (ok ts) k = (ts, refl, k)
-      go (err z) k = absurd k
+  signature-found e = what-found x (rw e at (w .is))
 
   pub signature-refused : {v : StatusCode} → r ≡ SignatureResult.Refused v → x ≡ err v
-  signature-refused {v} e = go x (rw e at (w .is))
-    where
-      go : (y : Result Signature) → signatureAnswer s (SignatureResult.Refused v) y → y ≡ err v
-      go (ok ts) k = absurd k
-      go (err z) k = rw k refl
+  signature-refused e = why-refused x (rw e at (w .is))
 
 module _ {s : List ℕ} {x : Result defs.StructDefinition} {r : StructDefResult} (w : StructDefIs s x r) where
   pub def-found : {d : StructDef} → r ≡ StructDefResult.Found d → (e : defs.StructDefinition) × (x ≡ ok e) × DefIs s e d
-  def-found {d} e = go x (rw e at (w .is))
-    where
-      go : (y : Result defs.StructDefinition) → structDefAnswer s (StructDefResult.Found d) y → (e : defs.StructDefinition) × (y ≡ ok e) × DefIs s e d
-      go (ok t) k = (t, refl, k)
-      go (err z) k = absurd k
+  def-found e = what-found x (rw e at (w .is))
 
   pub def-refused : {v : StatusCode} → r ≡ StructDefResult.Refused v → x ≡ err v
-  def-refused {v} e = go x (rw e at (w .is))
-    where
-      go : (y : Result defs.StructDefinition) → structDefAnswer s (StructDefResult.Refused v) y → y ≡ err v
-      go (ok t) k = absurd k
-      go (err z) k = rw k refl
+  def-refused e = why-refused x (rw e at (w .is))
