@@ -7,7 +7,7 @@
  *   - `unit` points to `unit_len` bytes that can be read, `area` to `area_len` bytes that can be read and written;
  *   - the two do not overlap, and nothing else writes to either, or reads the area, until the call returns;
  *   - each length is at most PTRDIFF_MAX;
- *   - the thread has 256 KiB of stack left (measured, on types that nest as deep as they can: about 105 KB).
+ *   - the thread has 256 KiB of stack left (measured, on the deepest types: about 102 KB).
  * A pointer whose length is 0 is never followed, so it may be null. The area may hold anything before the call.
  *
  * The area afterwards is zeros from end to end. If it was longer than WAVGRUT_LONGEST_AREA, the verdict is 9 b 0 and the area is

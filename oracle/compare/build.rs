@@ -1,5 +1,5 @@
 //! Links the port, if it is there: libwavgrut.a of the folder WAVGRUT_LIB (default: the repository's target/staticlib).
-//! Without it everything but `compare` and `sweep` works.
+//! Without it everything but `compare`, `sweep` and `bench` works.
 use std::env;
 use std::path::PathBuf;
 

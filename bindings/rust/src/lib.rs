@@ -11,7 +11,7 @@
 //! assert_eq!(verdict.to_string(), "0 n 0");
 //! ```
 //!
-//! A call asks for 256 KiB of its thread's stack (about 105 KB were measured) and takes no heap. Any number of threads may call at once.
+//! A call asks for 256 KiB of its thread's stack (about 102 KB were measured) and takes no heap. Any number of threads may call at once.
 
 mod status;
 mod verdict;

@@ -102,3 +102,29 @@ fn threads_call_at_once() {
         thread.join().expect("no call failed");
     }
 }
+
+/// A type inside 31 structs of one type parameter each: as deep as a unit may have it, where it is a leaf.
+fn nested(inner: &[u8]) -> Vec<u8> {
+    [&[9, 0, 0, 1].repeat(31), inner].concat()
+}
+
+#[test]
+fn the_deepest_types_fit_in_the_stack_that_is_asked_for() {
+    let unit = [
+        &[1, 0x10, 15, 1, 0][..],
+        &[0x11, 0],
+        // what f<T> returns, and what T is: 63 levels together
+        &[&[0x11, 1][..], &nested(&[0x0c, 0, 0])].concat(),
+        &[&[0x11, 1][..], &nested(&[2])].concat(),
+        &[0x12, 0, 0, 1, 0],
+        &[0x13, 0, 0, 2, 0],
+        &[0x19, 0, 0, 0, 0, 0, 0, 0],
+        &[0x1a, 0, 0, 1, 0],
+        // CallGeneric, Pop
+        &[0x1b, 2, 0, 0x12, 0, 0, 0],
+    ]
+    .concat();
+    let calls = move || assert_eq!(lines(&unit, 16384), ["0 n 0"; 4]);
+    let thread = std::thread::Builder::new().stack_size(256 * 1024).spawn(calls).expect("a thread");
+    thread.join().expect("no call failed");
+}

@@ -51,7 +51,7 @@ fn struct_handle_at(handles: &[u16], h: StructHandleIndex) -> Place
     Place::At(widest(handles[i]))
 }
 
-// The abilities of a type with no type inside, by its command: only signer's are not those of all others.
+// The abilities of a leaf, by its command: only signer's are not those of all others.
 pub fn leaf_abilities(command: u8) -> AbilitySet
     ensures { λ r. ⌜ r ≡ setOf (leafSet command) ⌝ }
 {

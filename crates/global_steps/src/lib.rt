@@ -1,5 +1,5 @@
-// The borrows of a struct in global storage of type_safety.rs, with type arguments or without: the address is popped and tested first, then the
-// definition is looked up and must have key.
+// The borrows of a struct in global storage of type_safety.rs, with type arguments, which are looked up first, or without: the address is popped
+// and tested, then the definition is looked up and must have key.
 use file_format::Ability;
 use file_format::StructDefInstantiationIndex;
 use file_format::StructDefinitionIndex;

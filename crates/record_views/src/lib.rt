@@ -133,8 +133,8 @@ fn instruction_by_width(s: &[u8], at: usize) -> Instruction
     }
 }
 
-// The instruction whose opcode stands at `at`. Where the longest operands would fit, the bytes behind the opcode are read as each kind of
-// operand, with no decision over the opcode: that is left to whoever uses them.
+// The instruction whose opcode stands at `at`. Where 10 bytes follow the opcode, as many as VecPack's operands take, they
+// are read as each kind of operand that is kept, with no decision over the opcode: that is left to whoever uses them.
 pub fn instruction_at(s: &[u8], at: usize) -> Instruction
     requires { ⌜ InstructionHere (now s) at ⌝ }
     ensures { λ r. ⌜ ((p : InstructionHere (now (s .entry)) at) → InstructionIs p r) ⌝ }

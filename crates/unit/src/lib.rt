@@ -1,4 +1,5 @@
-// The reader of a unit. It fills an index with the place of each record and of each instruction, so that no look-up scans a table.
+// The reader of a unit. It fills an index with the place of each record of a table, each block and each instruction, so that no look-up scans
+// a table.
 use record_reader::ReadTo;
 use status::StatusCode;
 ghost use mathlib.Core.Path.{_≡_};
@@ -324,7 +325,8 @@ fn read_under(s: &[u8], head: Head, index: &mut [u16]) -> ReadUnit
     }
 }
 
-// A whole unit. Where it is read, the index has the place of each record and of each instruction.
+// A whole unit. Where it is read, the index has the place of each record of a table, each block and each instruction, and the view that of the
+// function.
 pub fn read(s: &[u8], index: &mut [u16]) -> ReadUnit
     requires { ⌜ (length (now s) ≤ 32768 → length (now s) ≤ length (now index)) ⌝ }
     ensures { λ r. ⌜ r ≡ answerOf (readUnit (now (s .entry))) ⌝ }

@@ -1,4 +1,5 @@
-// The tables of a unit that was read: where record i of one stands, by the index. Every look-up in a unit goes through it.
+// The tables of a unit that was read: where record i of one stands, by the index. Look-ups by number go through it, but that of a struct handle
+// for its abilities, which is lent its table's part of the index.
 use unit::Table;
 ghost use mathlib.Core.Path.{_≡_};
 ghost use Prim.Native.Nat.{_+_, _<_};

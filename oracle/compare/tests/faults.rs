@@ -1,4 +1,4 @@
-//! The comparison notices faults. Few units are enough for most; `compare faults 200000 1` looks for all of them.
+//! The comparison notices faults. Few units are enough for most; `compare faults 100000 1` looks for all of them.
 use compare::faults;
 
 #[test]
