@@ -3,11 +3,11 @@
 use file_format::Abilities;
 use file_format::AbilitySet;
 use file_format::StructHandleIndex;
+use numbers::wide;
+use numbers::widest;
 use record_views::TypeList;
 use status::StatusCode;
 use unit::View;
-ghost use mathlib.Core.Path.{_≡_};
-ghost use Prim.Native.Nat.{_+_, _<_};
 ghost use Rattle.definitions.specs.CompiledUnit as defs;
 ghost use Rattle.definitions.specs.Places.{TypeAt};
 ghost use Rattle.definitions.specs.Reader.{compiledUnit};
@@ -36,12 +36,6 @@ pub enum StructHandleResult {
     Refused(StatusCode),
 }
 
-fn wide(x: u8) -> usize
-    ensures { λ r. ⌜ (r ≡ x) × (r < 256) ⌝ }
-{
-    x as usize
-}
-
 pub fn struct_handle_at(
     s: &[u8],
     index: &[u16],
@@ -55,7 +49,7 @@ pub fn struct_handle_at(
     if view.struct_handles.count <= i {
         return StructHandleResult::Refused(StatusCode::OUT_OF_TABLE);
     }
-    let p = unit_tables::place(index, view.struct_handles, unit_tables::widest(i));
+    let p = unit_tables::place(index, view.struct_handles, widest(i));
     StructHandleResult::Found(StructHandle {
         abilities: AbilitySet(s[p + 1]),
         parameters: p + 3,
@@ -69,7 +63,7 @@ fn ability_context(s: &[u8], index: &[u16], view: View) -> AbilityContext
 {
     let from = view.function + 8;
     AbilityContext {
-        struct_handles: unit_tables::widest(view.struct_handles.count),
+        struct_handles: widest(view.struct_handles.count),
         from,
         to: from + wide(s[view.function + 7]),
     }

@@ -3,11 +3,13 @@
 use file_format::Abilities;
 use file_format::AbilitySet;
 use file_format::StructHandleIndex;
+use numbers::wide;
+use numbers::widest;
 use signature_token::Token;
 use signature_token::Wrapper;
 use status::StatusCode;
 ghost use mathlib.Core.Path.{_≡_};
-ghost use Prim.Native.Nat.{_≤_, _<_};
+ghost use Prim.Native.Nat.{_≤_};
 ghost use lib.ListN.{length};
 ghost use Rattle.definitions.specs.Result.{at};
 ghost use Rattle.definitions.specs.Places.{TypeAt, TypesAt};
@@ -26,18 +28,6 @@ enum Place {
 enum Gathered {
     All,
     Refused(StatusCode),
-}
-
-fn wide(x: u8) -> usize
-    ensures { λ r. ⌜ (r ≡ x) × (r < 256) ⌝ }
-{
-    x as usize
-}
-
-fn widest(x: u16) -> usize
-    ensures { λ r. ⌜ (r ≡ x) × (r < 65536) ⌝ }
-{
-    x as usize
 }
 
 // Where the h-th struct handle stands.

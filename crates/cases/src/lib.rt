@@ -2,18 +2,13 @@
 // types, 3 is both), the area's length and the unit's length in four bytes each, the lowest first, and the unit. The area is lent full of
 // junk. Where it is not as it is due afterwards, the line `area` follows the verdict's, so that a comparison of what is written shows it.
 use libc::STDOUT_FILENO;
+use numbers::wide;
 use status::Verdict;
 ghost use Prim.Native.Nat.{_≤_, _<_};
 ghost use lib.ListN.{length};
 
 // No call may leave it, unless it leaves the whole area untouched.
 const JUNK: u8 = 7;
-
-fn wide(x: u8) -> usize
-    ensures { λ r. ⌜ r < 256 ⌝ }
-{
-    x as usize
-}
 
 // The number in the four bytes at the front, the lowest first.
 fn number(b: &[u8]) -> usize

@@ -1,7 +1,7 @@
 // The code of a unit that was read: `s` are its bytes, `index` and `view` say where its instructions and its listed blocks stand.
 use record_views::Instruction;
 use unit::View;
-ghost use Prim.Native.Nat.{_+_, _<_};
+ghost use Prim.Native.Nat.{_<_};
 ghost use Rattle.definitions.specs.Reader.{compiledUnit};
 ghost use Rattle.unit.specs.Views.{UnitRead};
 ghost use Rattle.code_views.specs.Answers.{opcodeByte, InstructionAt, OpcodeAt, BlockAt};
@@ -39,7 +39,7 @@ pub fn block_at(s: &[u8], index: &[u16], view: View, i: usize) -> Block
 {
     let p = unit_tables::place(index, view.blocks, i);
     Block {
-        first: record_views::u16_at(s, p + 1),
-        last: record_views::u16_at(s, p + 3),
+        first: numbers::u16_at(s, p + 1),
+        last: numbers::u16_at(s, p + 3),
     }
 }

@@ -4,6 +4,7 @@ use file_format::FieldHandleIndex;
 use file_format::FieldInstantiationIndex;
 use handle_views::FieldHandleResult;
 use handle_views::FieldInstantiationResult;
+use numbers::widest;
 use record_views::Fields;
 use record_views::StructDef;
 use record_views::TypeList;
@@ -15,7 +16,6 @@ use unit::View;
 use unit_views::SignatureResult;
 use unit_views::StructDefResult;
 use unit_views::TypeResult;
-ghost use mathlib.Core.Path.{_≡_};
 ghost use Prim.Native.Nat.{_≤_};
 ghost use lib.ListN.{length};
 ghost use Rattle.definitions.specs.Places.{TypeAt};
@@ -68,12 +68,6 @@ fn borrowed_at(area: &[u8], at: usize, mutable: bool) -> Borrowed
     }
 }
 
-fn wide(x: u16) -> usize
-    ensures { λ r. ⌜ r ≡ x ⌝ }
-{
-    x as usize
-}
-
 // The field's type, as it is declared.
 fn field_at(s: &[u8], owner: Owner) -> TypeResult
     requires { ⌜ OwnerAt (now s) owner ⌝ }
@@ -85,7 +79,7 @@ fn field_at(s: &[u8], owner: Owner) -> TypeResult
         Fields::Native => TypeResult::Refused(StatusCode::BORROWFIELD_BAD_FIELD_ERROR),
         Fields::Declared(list) => {
             let n = list.count;
-            let k = wide(owner.field);
+            let k = widest(owner.field);
             if n <= k {
                 return TypeResult::Refused(StatusCode::OUT_OF_TABLE);
             }

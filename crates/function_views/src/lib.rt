@@ -1,7 +1,6 @@
 // The types of the function of a unit that was read: those of its parameters, those that it returns, and those of its other locals.
 use record_views::TypeList;
 use unit::View;
-ghost use Prim.Native.Nat.{_+_};
 ghost use Rattle.definitions.specs.Reader.{compiledUnit};
 ghost use Rattle.record_views.specs.Records.{ListIs};
 ghost use Rattle.unit.specs.Views.{UnitRead};
@@ -12,8 +11,8 @@ fn types_named_at(s: &[u8], index: &[u16], view: View, at: usize) -> TypeList
     requires { ⌜ TypesNamed (now s) (now index) view at ⌝ }
     ensures { λ r. ⌜ ((q : TypesNamed (now (s .entry)) (now (index .entry)) view at) → ListIs (now (s .entry)) (q .types) r) ⌝ }
 {
-    let signature = record_views::u16_at(s, at);
-    let p = unit_tables::place(index, view.signatures, unit_tables::widest(signature));
+    let signature = numbers::u16_at(s, at);
+    let p = unit_tables::place(index, view.signatures, numbers::widest(signature));
     record_views::type_list(s, p + 1)
 }
 

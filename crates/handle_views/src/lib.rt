@@ -12,7 +12,6 @@ use unit::Head;
 use unit::Table;
 use unit::View;
 ghost use mathlib.Core.Path.{_≡_};
-ghost use Prim.Native.Nat.{_+_};
 ghost use Rattle.definitions.specs.CompiledUnit as defs;
 ghost use Rattle.definitions.specs.Reader.{compiledUnit};
 ghost use Rattle.unit.specs.Views.{UnitRead};
@@ -83,11 +82,8 @@ fn pair_at(s: &[u8], index: &[u16], table: Table, i: u16) -> PairAt
     if table.count <= i {
         return PairAt::OutOfTable;
     }
-    let p = unit_tables::place(index, table, unit_tables::widest(i));
-    PairAt::Pair(
-        record_views::u16_at(s, p + 1),
-        record_views::u16_at(s, p + 3),
-    )
+    let p = unit_tables::place(index, table, numbers::widest(i));
+    PairAt::Pair(numbers::u16_at(s, p + 1), numbers::u16_at(s, p + 3))
 }
 
 pub fn function_handle_at(

@@ -9,6 +9,7 @@ use handle_views::FunctionHandle;
 use handle_views::FunctionHandleResult;
 use handle_views::FunctionInstantiationResult;
 use handle_views::StructInstantiationResult;
+use numbers::wide64;
 use record_views::Fields;
 use status::StatusCode;
 use unit::View;
@@ -129,13 +130,6 @@ pub fn effects() -> [Effect; 71]
 
 // ── effects that are looked up ──
 
-// A count as a number of values.
-fn wide(n: usize) -> u64
-    ensures { λ r. ⌜ r ≡ n ⌝ }
-{
-    n as u64
-}
-
 // A call pops its parameters and pushes its returns.
 fn call_effect(s: &[u8], index: &[u16], view: View, handle: FunctionHandle) -> EffectResult
     requires { ⌜ UnitRead (now s) (now index) view ⌝ }
@@ -147,7 +141,7 @@ fn call_effect(s: &[u8], index: &[u16], view: View, handle: FunctionHandle) -> E
             match unit_views::signature_at(s, index, view, handle.return_) {
                 SignatureResult::Refused(status) => EffectResult::Refused(status),
                 SignatureResult::Found(returns) => {
-                    EffectResult::Found(wide(parameters.count), wide(returns.count))
+                    EffectResult::Found(wide64(parameters.count), wide64(returns.count))
                 }
             }
         }
@@ -192,7 +186,7 @@ fn field_count(s: &[u8], index: &[u16], view: View, idx: StructDefinitionIndex) 
             let fields = def.fields;
             match fields {
                 Fields::Native => FieldCount::Found(0),
-                Fields::Declared(list) => FieldCount::Found(wide(list.count)),
+                Fields::Declared(list) => FieldCount::Found(wide64(list.count)),
             }
         }
     }
@@ -249,7 +243,7 @@ fn looked_up_effect(s: &[u8], index: &[u16], view: View, i: usize) -> EffectResu
         // Ret
         1 => {
             let returns = function_views::returns(s, index, view);
-            EffectResult::Found(wide(returns.count), 0)
+            EffectResult::Found(wide64(returns.count), 0)
         }
         // Call, CallGeneric
         17 => call_effect_at(s, index, view, FunctionHandleIndex(x)),

@@ -1,5 +1,6 @@
 // One instruction, read from bytes of which nothing is known, by a table of how many bytes follow each opcode. The functions answer what the
 // reader of the definitions answers at that position, for every input. The instruction is not kept: a pass reads it again at its place.
+use numbers::wide;
 use record_reader::ReadTo;
 use status::StatusCode;
 ghost use mathlib.Core.Path.{_≡_};
@@ -9,12 +10,6 @@ ghost use Rattle.definitions.specs.Commands.{commandsOf};
 ghost use Rattle.definitions.specs.Reader.{instruction};
 ghost use Rattle.record_reader.specs.ReadTo.{readTo};
 ghost use Rattle.instruction_reader.specs.Widths.{operandWidth, WidthTable};
-
-fn wide(x: u8) -> usize
-    ensures { λ r. ⌜ (r ≡ x) × (r < 256) ⌝ }
-{
-    x as usize
-}
 
 // How many bytes follow each opcode.
 const OPERAND_WIDTHS: [u8; 71] = [

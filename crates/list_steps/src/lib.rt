@@ -1,6 +1,7 @@
 // Pops and pushes of a list of types, each with its parameters replaced: what a call does with its parameters and its returns, and Pack and
 // Unpack with the fields. `args` are the places of the type arguments in the unit, found once for an instruction. `Ret` compares the types
 // as they stand. Pushes are weighed, all of them, before the first is written.
+use numbers::widest;
 use record_views::TypeList;
 use status::StatusCode;
 use substitution::Size;
@@ -8,7 +9,6 @@ use substitution_comparison::Comparison;
 use type_stack::Stepped;
 use type_stack::Top;
 use unit::View;
-ghost use mathlib.Core.Path.{_≡_};
 ghost use mathlib.Core.List.{reverse};
 ghost use Prim.Native.Nat.{_≤_};
 ghost use lib.ListN.{length};
@@ -97,12 +97,6 @@ fn pop_one(
         Comparison::Differs => Stepped::Refused(status),
         Comparison::Same => Stepped::Next(start),
     }
-}
-
-fn widest(x: u16) -> usize
-    ensures { λ r. ⌜ r ≡ x ⌝ }
-{
-    x as usize
 }
 
 // Pops an operand for each of the types at the places, the last first.

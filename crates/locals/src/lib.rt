@@ -2,6 +2,8 @@
 // found once for a call, and behind them the end of the last type, so that each type ends at the next entry. The prover does not cover a
 // function over a struct that holds references, so those here are few and thin, and each is proved by hand; the work is in `place_of`.
 use file_format::LocalIndex;
+use numbers::wide;
+use numbers::widest;
 use record_views::TypeList;
 use status::StatusCode;
 use unit::View;
@@ -22,18 +24,6 @@ pub struct Locals<'a, 'b> {
 pub enum LocalResult {
     Found { at: usize, end: usize },
     Refused(StatusCode),
-}
-
-fn wide(x: u8) -> usize
-    ensures { λ r. ⌜ (r ≡ x) × (r < 256) ⌝ }
-{
-    x as usize
-}
-
-fn widest(x: u16) -> usize
-    ensures { λ r. ⌜ r ≡ x ⌝ }
-{
-    x as usize
 }
 
 // The type at entry i of a list: it ends at the next entry.

@@ -1,11 +1,11 @@
 // One record's body or one type, read from bytes of which nothing is known. Each function answers what the reader of the definitions answers
 // at that position, for every input: where the next byte is, or the refusal and its byte. The value that stands there is not kept: what a
 // pass needs of it is read again at its place.
+use numbers::number_at;
 use status::StatusCode;
 ghost use mathlib.Core.Path.{_≡_};
 ghost use mathlib.Core.List.{List};
-ghost use Prim.Native.Nat.{_+_, _*_, _<_};
-ghost use lib.ListN.{length, getD};
+ghost use lib.ListN.{length};
 ghost use Rattle.definitions.specs.SignatureToken.{Signature};
 ghost use Rattle.definitions.specs.CompiledUnit.{Head};
 ghost use Rattle.definitions.specs.Commands.{commandsOf};
@@ -27,12 +27,6 @@ enum TypeShape {
     Index,
     Instantiation,
     Unknown,
-}
-
-fn wide(x: u8) -> usize
-    ensures { λ r. ⌜ (r ≡ x) × (r < 256) ⌝ }
-{
-    x as usize
 }
 
 // `count` bytes that are not looked at.
@@ -240,14 +234,6 @@ fn read_struct_definition(s: &[u8], at: usize) -> ReadTo
     read_types(s, next + 1)
 }
 
-// The u16 at a position.
-pub fn u16_at(s: &[u8], at: usize) -> usize
-    requires { ⌜ at + 1 < length (now s) ⌝ }
-    ensures { λ r. ⌜ r ≡ getD (now (s .entry)) at 0 + 256 * getD (now (s .entry)) (at + 1) 0 ⌝ }
-{
-    wide(s[at]) + 256 * wide(s[at + 1])
-}
-
 // The index of one of so many signatures.
 fn read_signature_index(s: &[u8], at: usize, signatures: usize) -> ReadTo
     ensures { λ r. ⌜ ((l : List Signature) → length l ≡ signatures → r ≡ readTo (signatureOf l (now (s .entry)) at)) ⌝ }
@@ -258,7 +244,7 @@ fn read_signature_index(s: &[u8], at: usize, signatures: usize) -> ReadTo
     if s.len() <= at + 1 {
         return ReadTo::Refused(StatusCode::SHORT, s.len());
     }
-    if signatures <= u16_at(s, at) {
+    if signatures <= number_at(s, at) {
         return ReadTo::Refused(StatusCode::VALUE, at);
     }
     ReadTo::Next(at + 1 + 1)

@@ -1,9 +1,11 @@
 // What stands in a record or an instruction of a unit that was read, at a place that the reader's index has: read again, without a scan.
 use file_format::StructHandleIndex;
+use numbers::u16_at;
+use numbers::wide;
 ghost use mathlib.Core.Path.{_≡_};
 ghost use Prim.Native.Nat.{_+_, _<_};
 ghost use lib.ListN.{length};
-ghost use Rattle.record_reader.specs.Apart.{u16Of, numberOf};
+ghost use Rattle.record_reader.specs.Apart.{numberOf};
 ghost use Rattle.record_views.specs.Records.{ListAt, DefAt, InstructionHere, InstructionIs, DefIs};
 
 // The types of a list: where the first stands in the unit, and how many there are.
@@ -29,32 +31,6 @@ pub struct Instruction {
     pub local: u8,
     pub operand: u16,
     pub count: u64,
-}
-
-fn wide(x: u8) -> usize
-    ensures { λ r. ⌜ (r ≡ x) × (r < 256) ⌝ }
-{
-    x as usize
-}
-
-fn wide16(x: u8) -> u16
-    ensures { λ r. ⌜ (r ≡ x) × (r < 256) ⌝ }
-{
-    x as u16
-}
-
-fn wide64(x: usize) -> u64
-    ensures { λ r. ⌜ r ≡ x ⌝ }
-{
-    x as u64
-}
-
-// The u16 at `at`.
-pub fn u16_at(s: &[u8], at: usize) -> u16
-    requires { ⌜ at + 1 < length (now s) ⌝ }
-    ensures { λ r. ⌜ r ≡ u16Of (now (s .entry)) at ⌝ }
-{
-    wide16(s[at]) + 256 * wide16(s[at + 1])
 }
 
 // The u64 at `at`, from four u16.

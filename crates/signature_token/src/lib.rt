@@ -1,9 +1,10 @@
 // A type taken apart at its first command, and where types end. `token_at` is the one place in the passes that tells what a type's command
 // opens; the reader, which meets bytes that open none, has its own.
 use file_format::StructHandleIndex;
+use numbers::u16_at;
+use numbers::wide;
+use numbers::widest;
 ghost use mathlib.Core.Path.{_≡_};
-ghost use Prim.Native.Nat.{_+_, _*_, _<_};
-ghost use lib.ListN.{length, getD};
 ghost use Rattle.definitions.specs.Places.{TypeAt, TypesAt, EndOfType, EndOfTypes};
 ghost use Rattle.signature_token.specs.Token.{shapeOf, TokenAt};
 
@@ -77,32 +78,6 @@ fn shape_of(command: u8) -> Shape
         return Shape::TypeParameter;
     }
     Shape::Leaf
-}
-
-fn wide(x: u8) -> usize
-    ensures { λ r. ⌜ (r ≡ x) × (r < 256) ⌝ }
-{
-    x as usize
-}
-
-fn wide16(x: u8) -> u16
-    ensures { λ r. ⌜ (r ≡ x) × (r < 256) ⌝ }
-{
-    x as u16
-}
-
-fn widest(x: u16) -> usize
-    ensures { λ r. ⌜ r ≡ x ⌝ }
-{
-    x as usize
-}
-
-// The u16 at `at`, low byte first.
-fn u16_at(s: &[u8], at: usize) -> u16
-    requires { ⌜ at + 1 < length (now s) ⌝ }
-    ensures { λ r. ⌜ r ≡ getD (now (s .entry)) at 0 + 256 * getD (now (s .entry)) (at + 1) 0 ⌝ }
-{
-    wide16(s[at]) + 256 * wide16(s[at + 1])
 }
 
 // The type at `at`, taken apart.

@@ -1,9 +1,9 @@
 // The stack of types in the lent area: entries from the bottom up, each its type's bytes and then their length as a u16. A stack's
 // weight is the number of its bytes. Here are the looks at its top, and the answers of steps and of walks; the pushes are type_pushes and
 // copied_pushes.
+use numbers::wide;
 use status::StatusCode;
 ghost use mathlib.Core.Path.{_≡_};
-ghost use Prim.Native.Nat.{_<_};
 ghost use Rattle.type_stack.specs.Held.{Stacked};
 ghost use Rattle.type_stack.specs.Tops.{TopOf, TopTwoOf};
 
@@ -52,12 +52,6 @@ pub fn rebuilt(answer: Stepped) -> Stepped
         Stepped::Next(weight) => Stepped::Next(weight),
         Stepped::Refused(status) => Stepped::Refused(status),
     }
-}
-
-fn wide(x: u8) -> usize
-    ensures { λ r. ⌜ (r ≡ x) × (r < 256) ⌝ }
-{
-    x as usize
 }
 
 // The top of the stack. Taking it off leaves a stack that weighs its start.

@@ -164,7 +164,7 @@ fn read_code(s: &[u8], from: usize, index: &mut [u16], base: usize) -> ReadTable
     if s.len() <= from + 1 {
         return ReadTable::Refused(StatusCode::SHORT, s.len());
     }
-    let count = record_reader::u16_at(s, from);
+    let count = numbers::number_at(s, from);
     let widths = instruction_reader::operand_widths();
     let mut at = from + 1 + 1;
     let mut n = 0usize;
@@ -205,8 +205,8 @@ fn check_blocks(
     let mut i = 0usize;
     while i < count {
         let p = place_at(index, base + i);
-        let first = record_reader::u16_at(s, p + 1);
-        let last = record_reader::u16_at(s, p + 3);
+        let first = numbers::number_at(s, p + 1);
+        let last = numbers::number_at(s, p + 3);
         if last < first {
             return ReadTo::Refused(StatusCode::BLOCK, p);
         }

@@ -9,7 +9,6 @@ use record_views::TypeList;
 use status::StatusCode;
 use unit::Head;
 use unit::View;
-ghost use Prim.Native.Nat.{_+_};
 ghost use Rattle.definitions.specs.CompiledUnit as defs;
 ghost use Rattle.definitions.specs.Reader.{compiledUnit};
 ghost use Rattle.unit.specs.Views.{UnitRead};
@@ -39,7 +38,7 @@ pub fn signature_at(s: &[u8], index: &[u16], view: View, idx: SignatureIndex) ->
     if view.signatures.count <= i {
         return SignatureResult::Refused(StatusCode::OUT_OF_TABLE);
     }
-    let p = unit_tables::place(index, view.signatures, unit_tables::widest(i));
+    let p = unit_tables::place(index, view.signatures, numbers::widest(i));
     SignatureResult::Found(record_views::type_list(s, p + 1))
 }
 
@@ -67,7 +66,7 @@ pub fn constant_at(s: &[u8], index: &[u16], view: View, idx: ConstantPoolIndex) 
     if view.constants.count <= i {
         return TypeResult::Refused(StatusCode::OUT_OF_TABLE);
     }
-    TypeResult::Found(unit_tables::place(index, view.constants, unit_tables::widest(i)) + 1)
+    TypeResult::Found(unit_tables::place(index, view.constants, numbers::widest(i)) + 1)
 }
 
 pub fn struct_def_at(
@@ -87,7 +86,7 @@ pub fn struct_def_at(
             if view.struct_defs.count <= i {
                 return StructDefResult::Refused(StatusCode::OUT_OF_TABLE);
             }
-            let p = unit_tables::place(index, view.struct_defs, unit_tables::widest(i));
+            let p = unit_tables::place(index, view.struct_defs, numbers::widest(i));
             StructDefResult::Found(record_views::struct_def_at(s, p))
         }
     }

@@ -29,4 +29,4 @@ call-effect-spec =
     let k = r .before .before .before .before in
     let parameters = signature-told _ (k .before .before .signature-at .ensures p) (k .parameters .given .1) in
     let returns = signature-told _ (r .before .before .signature-at2 .ensures p) (r .returns .given .1) in
-    found _ parameters (found _ returns (rw (c .wide2 .ensures, c .before .wide .ensures))) ∙ call-by-counts _ _))
+    found _ parameters (found _ returns (rw (c .wide642 .ensures, c .before .wide64 .ensures))) ∙ call-by-counts _ _))

@@ -23,7 +23,7 @@ unfolding fieldCountAt
 returns-3 c p =
     let k = c .before .before .before .before .before in
     let counted = definition-told _ (k .before .before .struct-def-at .ensures p) (k .def .given .1) in
-    rw (c .wide .ensures) (rw (c .before .before .fields .given .1) at counted)
+    rw (c .wide64 .ensures) (rw (c .before .before .fields .given .1) at counted)
 
 pub field-count-spec : {M : Type 1} → statement M
 field-count-spec =

@@ -10,7 +10,7 @@ use Rattle.instruction_effect.proofs.looked_up_effect.Tie as tie
 
 returns : tie.Need-returns
 unfolding instructionOf instructionEffect
-returns c p = looked-up (c .before .before .before .instruction-at .ensures p) 1 (omega arith) (rw (c .wide .ensures, c .before .returns .ensures p .is .counted))
+returns c p = looked-up (c .before .before .before .instruction-at .ensures p) 1 (omega arith) (rw (c .wide64 .ensures, c .before .returns .ensures p .is .counted))
 
 returns-2 : tie.Need-returns-2
 unfolding instructionOf instructionEffect

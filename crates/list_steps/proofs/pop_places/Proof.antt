@@ -29,17 +29,17 @@ pop-places-spec =
     (λ c κs. let turn = c .before .before .before in
     let start = entry turn in (
       turn .loop .inv .under,
-      (popping-type (turn .loop .inv) (c .before .before .loop-test .taken) (c .widest .ensures) (start .pre .1 .0), start .pre .1 .1),
+      (popping-type (turn .loop .inv) (c .before .before .loop-test .taken) (c .widest .ensures .0) (start .pre .1 .0), start .pre .1 .1),
     ))
     (λ c. search needs)
     (λ c. let turn = c .before .before .before .before .before .before .before in
     popping-bad (turn .loop .inv) (c .before .before .before .before .before .before .loop-test .taken)
-    (c .before .before .before .before .widest .ensures) (c .before .before .before .pop-one .ensures) (c .before .why .given .1))
+    (c .before .before .before .before .widest .ensures .0) (c .before .before .before .pop-one .ensures) (c .before .why .given .1))
     (λ c. search needs)
     (λ c. omega arith)
     (λ c. let turn = c .before .before .before .before .before .before .before in
     let start = entry turn in
     popping-next (turn .loop .inv) (c .before .before .before .before .before .before .loop-test .taken)
-    (c .before .before .before .before .widest .ensures) (c .before .before .before .pop-one .ensures) (start .pre .1 .0) (start .pre .1 .1)
+    (c .before .before .before .before .widest .ensures .0) (c .before .before .before .pop-one .ensures) (start .pre .1 .0) (start .pre .1 .1)
     (c .before .start .given .1))
     (λ c. popping-end (c .before .loop .inv) (c .loop-test .left)))

@@ -57,5 +57,5 @@ token-at-spec =
     (λ c. λ p. sym (token-by p (sym (c .before .before .shape-of .ensures) ∙ c .enum-told5 .given .1)))
     (λ c. λ p. sym (token-by p (sym (c .before .before .shape-of .ensures) ∙ c .enum-told6 .given .1)))
     (λ c. let told = c .before .before in
-    λ p. rw (c .widest .ensures, c .before .u16-at3 .ensures)
+    λ p. rw (c .widest .ensures .0, c .before .u16-at3 .ensures)
     (sym (token-by p (sym (told .before .before .shape-of .ensures) ∙ told .enum-told7 .given .1)))))

@@ -29,13 +29,13 @@ check-blocks-spec =
     omega (arith, block-here (start .pre) (c .before .before .loop-test .taken) (c .before .place-at .ensures) .within))
     (λ c. let turn = c .before .before .before .before .before in
     tested-falls (turn .loop .inv) (c .before .before .before .before .loop-test .taken) (c .before .before .before .place-at .ensures)
-    (omega (arith, c .before .before .u16-at .ensures, c .before .u16-at2 .ensures)))
+    (omega (arith, c .before .before .number-at .ensures, c .before .number-at2 .ensures)))
     (λ c. let turn = c .before .before .before .before .before .before in
     tested-past (turn .loop .inv) (c .before .before .before .before .before .loop-test .taken) (c .before .before .before .before .place-at .ensures)
-    (omega (arith, c .before .before .before .u16-at .ensures, c .before .before .u16-at2 .ensures)) (omega (arith, c .before .before .u16-at2 .ensures)))
+    (omega (arith, c .before .before .before .number-at .ensures, c .before .before .number-at2 .ensures)) (omega (arith, c .before .before .number-at2 .ensures)))
     (λ c. omega arith)
     (λ c. omega arith)
     (λ c. let turn = c .before .before .before .before .before .before in
     tested-more (turn .loop .inv) (c .before .before .before .before .before .loop-test .taken) (c .before .before .before .before .place-at .ensures)
-    (omega (arith, c .before .before .before .u16-at .ensures, c .before .before .u16-at2 .ensures)) (omega (arith, c .before .before .u16-at2 .ensures)))
+    (omega (arith, c .before .before .before .number-at .ensures, c .before .before .number-at2 .ensures)) (omega (arith, c .before .before .number-at2 .ensures)))
     (λ c. tested-all (c .before .loop .inv) (c .loop-test .left)))

@@ -25,10 +25,10 @@ abbrev μ-loop : tie.MeasureT-loop
 counts :
     (c : tie.After-operand-widths Inv-loop μ-loop) →
     let a = c .before .before .before .before .before .before .args in
-    u16 (now (a .s)) (a .from) ≡ read (c .before .u16-at .result) (a .from + 1 + 1)
+    u16 (now (a .s)) (a .from) ≡ read (c .before .number-at .result) (a .from + 1 + 1)
 counts c =
     let a = c .before .before .before .before .before .before .args in
-    u16-next _ _ (c .before .before .if2 .left) ∙ ap (λ (m : ℕ). read m (a .from + 1 + 1)) (sym (c .before .u16-at .ensures))
+    u16-next _ _ (c .before .before .if2 .left) ∙ ap (λ (m : ℕ). read m (a .from + 1 + 1)) (sym (c .before .number-at .ensures))
 
 pub read-code-spec : {M : Type 1} → statement M
 read-code-spec =

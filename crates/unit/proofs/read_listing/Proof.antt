@@ -1,5 +1,5 @@
 -- `read_listing`: blocks, then code, then the unit ends, then the blocks are judged.
-use mathlib.Core.Path.{refl, sym, _∙_}
+use mathlib.Core.Path.{sym, _∙_}
 use native.Mathlib.Omega.{arith}
 use Rattle.definitions.specs.CompiledUnit.{Head}
 use Rattle.unit.specs.Filled.{headOf}

@@ -1,5 +1,4 @@
 -- `view_of`: the view has what each look-up of a table's entries gave.
-use mathlib.Core.Path.{_≡_}
 use native.Mathlib.Omega.{arith}
 use borrow.Author.Needs.{needs}
 use Rattle.unit.proofs.view_of.Statement.{statement}
