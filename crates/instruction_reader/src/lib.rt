@@ -4,12 +4,11 @@ use numbers::wide;
 use record_reader::ReadTo;
 use status::StatusCode;
 ghost use mathlib.Core.Path.{_≡_};
-ghost use Prim.Native.Nat.{_<_};
 ghost use Rattle.definitions.specs.CompiledUnit.{Head};
 ghost use Rattle.definitions.specs.Commands.{commandsOf};
 ghost use Rattle.definitions.specs.Reader.{instruction};
 ghost use Rattle.record_reader.specs.ReadTo.{readTo};
-ghost use Rattle.instruction_reader.specs.Widths.{operandWidth, WidthTable};
+ghost use Rattle.instruction_reader.specs.Widths.{WidthTable};
 
 // How many bytes follow each opcode.
 const OPERAND_WIDTHS: [u8; 71] = [
@@ -86,14 +85,7 @@ const OPERAND_WIDTHS: [u8; 71] = [
     2, // VecSwap
 ];
 
-pub fn operand_width(opcode: usize) -> usize
-    requires { ⌜ opcode < 71 ⌝ }
-    ensures { λ r. ⌜ r ≡ operandWidth opcode ⌝ }
-{
-    wide(OPERAND_WIDTHS[opcode])
-}
-
-// The whole table, for a caller that reads many instructions: indexing a constant makes it anew each time.
+// The table, to be made once by a caller that reads many instructions: a constant is made anew wherever it is indexed.
 pub fn operand_widths() -> [u8; 71]
     ensures { λ r. ⌜ WidthTable r ⌝ }
 {

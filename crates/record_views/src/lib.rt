@@ -75,37 +75,35 @@ pub fn struct_def_at(s: &[u8], at: usize) -> StructDef
     }
 }
 
-// The instruction whose opcode stands at `at`, its operands read by how many bytes they take.
-fn instruction_by_width(s: &[u8], at: usize) -> Instruction
-    requires { ⌜ InstructionHere (now s) at ⌝ }
+// The instruction whose opcode stands at `at`, fewer than 11 bytes before the end. What follows is read as each kind of operand for which it is long
+// enough.
+fn instruction_near_end(s: &[u8], at: usize) -> Instruction
+    requires { ⌜ InstructionHere (now s) at × (length (now s) < at + 11) ⌝ }
     ensures { λ r. ⌜ ((p : InstructionHere (now (s .entry)) at) → InstructionIs p r) ⌝ }
 {
     let opcode = s[at];
-    match instruction_reader::operand_width(wide(opcode)) {
-        1 => Instruction {
+    let left = s.len() - at;
+    if 2 < left {
+        return Instruction {
+            opcode: opcode,
+            local: s[at + 1],
+            operand: u16_at(s, at + 1),
+            count: 0,
+        };
+    }
+    if 1 < left {
+        return Instruction {
             opcode: opcode,
             local: s[at + 1],
             operand: 0,
             count: 0,
-        },
-        2 => Instruction {
-            opcode: opcode,
-            local: 0,
-            operand: u16_at(s, at + 1),
-            count: 0,
-        },
-        10 => Instruction {
-            opcode: opcode,
-            local: 0,
-            operand: u16_at(s, at + 1),
-            count: u64_at(s, at + 3),
-        },
-        _ => Instruction {
-            opcode: opcode,
-            local: 0,
-            operand: 0,
-            count: 0,
-        },
+        };
+    }
+    Instruction {
+        opcode: opcode,
+        local: 0,
+        operand: 0,
+        count: 0,
     }
 }
 
@@ -115,13 +113,13 @@ pub fn instruction_at(s: &[u8], at: usize) -> Instruction
     requires { ⌜ InstructionHere (now s) at ⌝ }
     ensures { λ r. ⌜ ((p : InstructionHere (now (s .entry)) at) → InstructionIs p r) ⌝ }
 {
-    if s.len() - at <= 10 {
-        return instruction_by_width(s, at);
+    if 10 < s.len() - at {
+        return Instruction {
+            opcode: s[at],
+            local: s[at + 1],
+            operand: u16_at(s, at + 1),
+            count: u64_at(s, at + 3),
+        };
     }
-    Instruction {
-        opcode: s[at],
-        local: s[at + 1],
-        operand: u16_at(s, at + 1),
-        count: u64_at(s, at + 3),
-    }
+    instruction_near_end(s, at)
 }

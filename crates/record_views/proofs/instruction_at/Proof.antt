@@ -12,8 +12,6 @@ instruction-at-spec =
     tie.close
     (tie.spec
     (λ c. omega (arith, reread (c .before .pre) .within))
-    (λ c κs. search needs)
-    (λ c. search needs)
     (λ c. search needs)
     (λ c. search needs)
     (λ c. search needs)
@@ -24,4 +22,6 @@ instruction-at-spec =
     (λ c p.
     let x = c .before .u16-at .ensures in
     let n = c .u64-at .ensures ∙ ap (numberOf 8 _) (omega arith) in
-    is-here p refl (λ k. refl) (λ k. x) (λ k. (x, n))))
+    is-here p refl (λ k. refl) (λ k. x) (λ k. (x, n)))
+    (λ c κs. search needs)
+    (λ c. search needs))
