@@ -10,6 +10,8 @@ mod families;
 mod generated;
 #[cfg(port)]
 mod timing;
+#[cfg(port)]
+mod used;
 
 use std::process::ExitCode;
 use std::time::Duration;

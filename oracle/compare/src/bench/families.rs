@@ -1,5 +1,6 @@
 //! The families of units that are timed: generated ones, and one unit each of those that are made to be slow.
 use super::generated;
+use super::used::only_used;
 use crate::case::Case;
 use crate::rows::{bare, in_one_block, indexed, plain, USUAL_AREA};
 use unit::tables::*;
@@ -16,7 +17,9 @@ pub fn families() -> Vec<Family> {
     vec![
         family("small", generated::small()),
         lent("small, area 1,024", 1_024, generated::small()),
+        family("small, only what is used", with_only_used(generated::small())),
         family("medium", generated::medium()),
+        family("medium, only what is used", with_only_used(generated::medium())),
         family("largest", generated::largest()),
         family("3,000 CallGeneric of 64 types", vec![calls()]),
         family("10,000 CopyLoc of the last of 200 locals", vec![copies()]),
@@ -28,6 +31,11 @@ pub fn families() -> Vec<Family> {
         family("32,768 bytes of Nops", vec![nops(LONGEST_UNIT)]),
         family("32,768 bytes of minimal records", vec![minimal_records()]),
     ]
+}
+
+/// The units without the entries of their tables that nothing uses.
+fn with_only_used(units: Vec<Unit>) -> Vec<Unit> {
+    units.iter().map(only_used).collect()
 }
 
 /// Units with the usual area.
