@@ -39,9 +39,16 @@ fn table_of(opcode: Opcode) -> Option<Table> {
         LdConst => Table::Constant,
         Call => Table::FunctionHandle,
         CallGeneric => Table::FunctionInstantiation,
-        Pack | Unpack | MutBorrowGlobal | ImmBorrowGlobal | Exists | MoveFrom | MoveTo => Table::StructDefinition,
-        PackGeneric | UnpackGeneric | MutBorrowGlobalGeneric | ImmBorrowGlobalGeneric | ExistsGeneric
-        | MoveFromGeneric | MoveToGeneric => Table::StructInstantiation,
+        Pack | Unpack | MutBorrowGlobal | ImmBorrowGlobal | Exists | MoveFrom | MoveTo => {
+            Table::StructDefinition
+        }
+        PackGeneric
+        | UnpackGeneric
+        | MutBorrowGlobalGeneric
+        | ImmBorrowGlobalGeneric
+        | ExistsGeneric
+        | MoveFromGeneric
+        | MoveToGeneric => Table::StructInstantiation,
         MutBorrowField | ImmBorrowField => Table::FieldHandle,
         MutBorrowFieldGeneric | ImmBorrowFieldGeneric => Table::FieldInstantiation,
         VecPack | VecLen | VecImmBorrow | VecMutBorrow | VecPushBack | VecPopBack | VecUnpack | VecSwap => {
@@ -91,57 +98,89 @@ impl<'a> Used<'a> {
             Some(Table::StructHandle) => self.struct_handle(old),
             Some(Table::Signature) => self.signature(old),
             Some(Table::FunctionHandle) => self.function_handle(old),
-            Some(Table::FunctionInstantiation) => {
-                self.entry(Table::FunctionInstantiation, old, |to| &mut to.function_instantiations, |used, from, at| {
+            Some(Table::FunctionInstantiation) => self.entry(
+                Table::FunctionInstantiation,
+                old,
+                |to| &mut to.function_instantiations,
+                |used, from, at| {
                     let Instantiation { of, arguments } = from.function_instantiations[at];
                     Instantiation { of: used.function_handle(of), arguments: used.signature(arguments) }
-                })
-            }
+                },
+            ),
             Some(Table::StructDefinition) => self.struct_definition(old),
-            Some(Table::StructInstantiation) => {
-                self.entry(Table::StructInstantiation, old, |to| &mut to.struct_instantiations, |used, from, at| {
+            Some(Table::StructInstantiation) => self.entry(
+                Table::StructInstantiation,
+                old,
+                |to| &mut to.struct_instantiations,
+                |used, from, at| {
                     let Instantiation { of, arguments } = from.struct_instantiations[at];
                     Instantiation { of: used.struct_definition(of), arguments: used.signature(arguments) }
-                })
-            }
+                },
+            ),
             Some(Table::FieldHandle) => self.field_handle(old),
-            Some(Table::FieldInstantiation) => {
-                self.entry(Table::FieldInstantiation, old, |to| &mut to.field_instantiations, |used, from, at| {
+            Some(Table::FieldInstantiation) => self.entry(
+                Table::FieldInstantiation,
+                old,
+                |to| &mut to.field_instantiations,
+                |used, from, at| {
                     let Instantiation { of, arguments } = from.field_instantiations[at];
                     Instantiation { of: used.field_handle(of), arguments: used.signature(arguments) }
-                })
-            }
-            Some(Table::Constant) => {
-                self.entry(Table::Constant, old, |to| &mut to.constants, |used, from, at| used.ty(&from.constants[at]))
-            }
+                },
+            ),
+            Some(Table::Constant) => self.entry(
+                Table::Constant,
+                old,
+                |to| &mut to.constants,
+                |used, from, at| used.ty(&from.constants[at]),
+            ),
         };
         Instruction { index, ..*instruction }
     }
 
     fn signature(&mut self, old: u16) -> u16 {
-        self.entry(Table::Signature, old, |to| &mut to.signatures, |used, from, at| used.types(&from.signatures[at]))
+        self.entry(
+            Table::Signature,
+            old,
+            |to| &mut to.signatures,
+            |used, from, at| used.types(&from.signatures[at]),
+        )
     }
 
     fn function_handle(&mut self, old: u16) -> u16 {
-        self.entry(Table::FunctionHandle, old, |to| &mut to.function_handles, |used, from, at| {
-            let FunctionHandle { parameters, returns } = from.function_handles[at];
-            FunctionHandle { parameters: used.signature(parameters), returns: used.signature(returns) }
-        })
+        self.entry(
+            Table::FunctionHandle,
+            old,
+            |to| &mut to.function_handles,
+            |used, from, at| {
+                let FunctionHandle { parameters, returns } = from.function_handles[at];
+                FunctionHandle { parameters: used.signature(parameters), returns: used.signature(returns) }
+            },
+        )
     }
 
     fn struct_definition(&mut self, old: u16) -> u16 {
-        self.entry(Table::StructDefinition, old, |to| &mut to.struct_definitions, |used, from, at| {
-            let StructDefinition { handle, fields } = &from.struct_definitions[at];
-            let fields = fields.as_ref().map(|fields| used.types(fields));
-            StructDefinition { handle: used.struct_handle(*handle), fields }
-        })
+        self.entry(
+            Table::StructDefinition,
+            old,
+            |to| &mut to.struct_definitions,
+            |used, from, at| {
+                let StructDefinition { handle, fields } = &from.struct_definitions[at];
+                let fields = fields.as_ref().map(|fields| used.types(fields));
+                StructDefinition { handle: used.struct_handle(*handle), fields }
+            },
+        )
     }
 
     fn field_handle(&mut self, old: u16) -> u16 {
-        self.entry(Table::FieldHandle, old, |to| &mut to.field_handles, |used, from, at| {
-            let FieldHandle { owner, field } = from.field_handles[at];
-            FieldHandle { owner: used.struct_definition(owner), field }
-        })
+        self.entry(
+            Table::FieldHandle,
+            old,
+            |to| &mut to.field_handles,
+            |used, from, at| {
+                let FieldHandle { owner, field } = from.field_handles[at];
+                FieldHandle { owner: used.struct_definition(owner), field }
+            },
+        )
     }
 
     /// A handle past the table, which an accepted unit may name behind a reference, stays as it is.
@@ -149,7 +188,12 @@ impl<'a> Used<'a> {
         if self.from.struct_handles.len() <= usize::from(old) {
             return old;
         }
-        self.entry(Table::StructHandle, old, |to| &mut to.struct_handles, |_, from, at| from.struct_handles[at].clone())
+        self.entry(
+            Table::StructHandle,
+            old,
+            |to| &mut to.struct_handles,
+            |_, from, at| from.struct_handles[at].clone(),
+        )
     }
 
     fn types(&mut self, types: &[Type]) -> Vec<Type> {
