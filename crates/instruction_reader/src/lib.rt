@@ -4,7 +4,6 @@ use numbers::wide;
 use record_reader::ReadTo;
 use status::StatusCode;
 ghost use mathlib.Core.Path.{_≡_};
-ghost use Prim.Native.Nat.{_+_, _≤_};
 ghost use Rattle.definitions.specs.CompiledUnit.{Head};
 ghost use Rattle.definitions.specs.Commands.{commandsOf};
 ghost use Rattle.definitions.specs.Reader.{instruction};
@@ -93,22 +92,8 @@ pub fn operand_widths() -> [u8; 71]
     OPERAND_WIDTHS
 }
 
-// The sum, by a decision over the width: the processor foresees how it goes and reads on, where a plain sum has the next instruction wait until
-// this one's width is looked up.
-fn foreseen_end(operands: usize, width: usize) -> usize
-    requires { ⌜ operands + width ≤ 18446744073709551615 ⌝ }
-    ensures { λ r. ⌜ r ≡ operands + width ⌝ }
-{
-    match width {
-        0 => operands,
-        1 => operands + 1,
-        2 => operands + 2,
-        _ => operands + width,
-    }
-}
-
-// An opcode and its operands. `foreseen` says how their end is found, and changes no answer.
-pub fn read_instruction(s: &[u8], at: usize, widths: &[u8], foreseen: bool) -> ReadTo
+// An opcode and its operands.
+pub fn read_instruction(s: &[u8], at: usize, widths: &[u8]) -> ReadTo
     requires { ⌜ WidthTable (now widths) ⌝ }
     ensures { λ r. ⌜ ((head : Head) → r ≡ readTo (instruction (commandsOf head) (now (s .entry)) at)) ⌝ }
 {
@@ -123,9 +108,6 @@ pub fn read_instruction(s: &[u8], at: usize, widths: &[u8], foreseen: bool) -> R
     let width = wide(widths[opcode]);
     if s.len() - operands < width {
         return ReadTo::Refused(StatusCode::SHORT, s.len());
-    }
-    if foreseen {
-        return ReadTo::Next(foreseen_end(operands, width));
     }
     ReadTo::Next(operands + width)
 }

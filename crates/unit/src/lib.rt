@@ -12,9 +12,6 @@ ghost use Rattle.unit.specs.Outline.{joined, recordPlaces, tablePlaces, 
 ghost use Rattle.unit.specs.Filled.{headOf, Room, FilledBy, tableOf, RowsBy, listingOf, CodeAnswered, BlocksAt};
 ghost use Rattle.unit.specs.Views.{Ordered, tableAt, viewFrom, answerOf, Indexed};
 
-// From so many instructions on the ends of instructions are foreseen: in shorter code they are guessed wrong too often for that to pay.
-const LONG_CODE: usize = 1024;
-
 pub enum Head {
     Module,
     Script,
@@ -169,11 +166,10 @@ fn read_code(s: &[u8], from: usize, index: &mut [u16], base: usize) -> ReadTable
     }
     let count = numbers::number_at(s, from);
     let widths = instruction_reader::operand_widths();
-    let foreseen = LONG_CODE <= count;
     let mut at = from + 1 + 1;
     let mut n = 0usize;
     while n < count {
-        match instruction_reader::read_instruction(s, at, &widths, foreseen) {
+        match instruction_reader::read_instruction(s, at, &widths) {
             ReadTo::Refused(status, p) => {
                 return ReadTable::Refused(status, p);
             }

@@ -3,7 +3,6 @@ use mathlib.Core.Path.{_≡_, ap, _∙_}
 use native.Mathlib.Omega.{arith}
 use lib.ListN.{getD}
 use denote.Ref.{now}
-use Rattle.record_reader.specs.declared.ReadTo.the-variants.{Next}
 use Rattle.instruction_reader.specs.Widths.{operandWidth}
 use Rattle.instruction_reader.proofs.Instructions.{instruction-short, instruction-unknown, instruction-cut, instruction-taken}
 use borrow.Author.Needs.{needs}
@@ -33,9 +32,6 @@ read-instruction-spec =
     (λ c. search needs)
     (λ c head. let inside = c .before .before .before .before .before .before .if1 .left in
     instruction-cut head _ _ inside (omega arith) (width-is (c .before)) (omega arith))
-    (λ c κs. search needs)
-    (λ c head. let inside = c .before .before .before .before .before .before .before .before .if1 .left in
-    ap Next (c .foreseen-end .ensures) ∙ instruction-taken head _ _ inside (omega arith) (width-is (c .before .before .before)) (omega arith))
     (λ c. search needs)
-    (λ c head. let inside = c .before .before .before .before .before .before .before .if1 .left in
-    instruction-taken head _ _ inside (omega arith) (width-is (c .before .before)) (omega arith)))
+    (λ c head. let inside = c .before .before .before .before .before .before .if1 .left in
+    instruction-taken head _ _ inside (omega arith) (width-is (c .before)) (omega arith)))

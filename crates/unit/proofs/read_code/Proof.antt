@@ -16,10 +16,10 @@ use Rattle.unit.proofs.read_code.Statement.{statement}
 use Rattle.unit.proofs.read_code.Tie as tie
 
 abbrev Inv-loop : tie.InvT-loop
-Inv-loop s from index₀ base count widths foreseen at₀ n₀ index at n = (h : defs.Head) → InCode (instruction (commandsOf h)) s from base count index₀ index at n
+Inv-loop s from index₀ base count widths at₀ n₀ index at n = (h : defs.Head) → InCode (instruction (commandsOf h)) s from base count index₀ index at n
 
 abbrev μ-loop : tie.MeasureT-loop
-μ-loop s from index₀ base count widths foreseen at₀ n₀ index at n = count - n
+μ-loop s from index₀ base count widths at₀ n₀ index at n = count - n
 
 -- the count stands before the instructions
 counts :
