@@ -22,7 +22,7 @@ use Rattle.record_views.specs.Reread.{types-at}
 use Rattle.substitution.specs.declared.Size.{Size}
 use Rattle.substitution.specs.declared.Size.the-variants.{Bytes, Past}
 use Rattle.substitution.specs.Instantiate.{Arguments, filledAll}
-use Rattle.substitution.specs.Size.{SizesFrom, sizeFrom}
+use Rattle.substitution.specs.Size.{SizesAt, sizeFrom}
 use Rattle.type_stack.specs.Stepping.{StepsTo}
 use Rattle.type_stack.specs.declared.Stepped.{Stepped}
 use Rattle.list_steps.specs.declared.Form.the-variants.{Instantiated}
@@ -112,7 +112,7 @@ abbrev pub told : Size → Instantiates
 told (Bytes next len) = answer.All
 told Past = answer.Past
 
-pub sizes-tell : {s : List ℕ} {list : TypeList} {args : List ℕ} {z : Size} → SizesFrom s (list .at) (list .count) s args 0 z → (v : Size) → z ≡ v → InstantiatesEach s list args (told v)
+pub sizes-tell : {s : List ℕ} {list : TypeList} {args : List ℕ} {z : Size} → SizesAt s (list .at) (list .count) s args z → (v : Size) → z ≡ v → InstantiatesEach s list args (told v)
 unfolding filledAll sizeFrom _>>?_
 sizes-tell {s} {list} {args} m v e = record { is = λ p q. ap told (sym e ∙ m .is (types-at p) q) ∙ rw (each-all (p .types) (q .subst)) (go _ (instantiateEach (p .types) (q .subst))) }
   where

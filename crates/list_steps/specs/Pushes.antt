@@ -8,7 +8,7 @@ use lib.Seq.{length-take-le}
 use borrow.Rule.Slice.PartMut.{putMid}
 use Rattle.status.specs.declared.StatusCode.{StatusCode}
 use Rattle.status.specs.declared.StatusCode.the-variants.{«OUT_OF_TABLE», «NO_ROOM»}
-use Rattle.definitions.specs.Result.{Result, ok, err}
+use Rattle.definitions.specs.Result.{Result, ok, err, _>>?_}
 use Rattle.definitions.specs.SignatureToken.{SignatureToken, Signature, arguments, encode, encodeAll, le16}
 use Rattle.definitions.specs.Substitution.{instantiate}
 use Rattle.definitions.specs.Machine.{pushEach, run}
@@ -21,6 +21,7 @@ use Rattle.substitution.specs.declared.Size.the-variants.{Bytes, Past}
 use Rattle.substitution.specs.Instantiate.{Arguments, filled, instantiated}
 use Rattle.substitution.specs.Filling.{Room}
 use Rattle.substitution.specs.Size.{SizeAt, capped, past, was}
+use Rattle.substitution_writer.specs.declared.Reached.{Reached}
 use Rattle.substitution_writer.specs.Write.{WroteAt}
 use Rattle.substitution.specs.Past.{not-instantiated}
 use Rattle.type_stack.specs.Spliced.{spliced, length-spliced, lent}
@@ -188,13 +189,19 @@ pub record Writing (a : List ℕ) (w : ℕ) (s : List ℕ) (list : TypeList) (ar
   pub low : v ≤ length b
   pub is : (k : TypesIn s list) (q : Arguments s args) → Passed s (list .count) p i (Written a w (λ t. instantiate t (q .subst)) (k .types) b v)
 
--- the first of those that fit
-module _ {f : SignatureToken → Result SignatureToken} {room w : ℕ} {t : SignatureToken} {ts : Signature} where
-  first-fits : {u : SignatureToken} → Fit f room w (t ∷ ts) → f t ≡ ok u → (w + (length (encode u) + 2) ≤ room) × Fit f room (w + (length (encode u) + 2)) ts
-  first-fits {u} (more {u = x} e l h) k = let j : x ≡ u = cc in rw (← j) (l, h)
+-- the first of those that fit: what is made of it, for which there is room, and the others
+record FirstFits (f : SignatureToken → Result SignatureToken) (room w : ℕ) (t : SignatureToken) (ts : Signature) : Type 0 where
+  type : SignatureToken
+  here : f t ≡ ok type
+  fits : w + (length (encode type) + 2) ≤ room
+  others : Fit f room (w + (length (encode type) + 2)) ts
 
-  first-made : {y : StatusCode} → Fit f room w (t ∷ ts) → f t ≡ err y → ⊥
-  first-made (more e l h) k = let n : _≡_ {A = ℕ} 0 1 = cc in omega arith
+first-fits : {f : SignatureToken → Result SignatureToken} {room w : ℕ} {t : SignatureToken} {ts : Signature} → Fit f room w (t ∷ ts) → FirstFits f room w t ts
+first-fits (more {u = u} e l h) = record { type = u; here = e; fits = l; others = h }
+
+filled-made : (t : SignatureToken) (subst : Signature) {u : SignatureToken} → instantiate t subst ≡ ok u → filled t subst ≡ ok (encode u)
+unfolding filled _>>?_
+filled-made t subst e = rw e
 
 module _ {a : List ℕ} {w : ℕ} {s : List ℕ} {list : TypeList} {args : List ℕ} where
   pub writing-start : Stacked a w → AllFit (length a) w s list args → Writing a w s list args a w (list .at) 0
@@ -205,60 +212,51 @@ module _ {a : List ℕ} {w : ℕ} {s : List ℕ} {list : TypeList} {args : List 
     unfolding pushEach
     writing-done l = record { steps = λ k q. leads-done refl (passed-done (h .is k q) l .leads) }
 
-    module _ (l : i < list .count) where
-      -- what a turn needs
-      pub writing-type : TypesIn s list → Arguments s args → TypeAt s p
-      writing-type k q = turn (h .is k q) l .first
+    module _ (l : i < list .count) (small : length a ≤ 65535) where
+      module _ (k : TypesIn s list) (q : Arguments s args) where
+        made : FirstFits (λ t. instantiate t (q .subst)) (length a) v (turn (h .is k q) l .first .type) (turn (h .is k q) l .rest)
+        made = first-fits (turn (h .is k q) l .state .fit)
 
-      module _ {z : Size} (m : SizeAt s p s args z) where
-        -- every type is made
-        pub writing-past : TypesIn s list → Arguments s args → z ≡ Past → ⊥
-        writing-past k q e = let t = turn (h .is k q) l in first-made (t .state .fit) (size-past m (t .first) q e)
+        abbrev room : Room s p s args 0 (length (take (length b - v) (drop v b)))
+        room = record {
+          filling = record { from = turn (h .is k q) l .first; list = q; bytes = encode (made .type); is = filled-made (turn (h .is k q) l .first .type) (q .subst) (made .here) };
+          fits = omega (arith, made .fits, h .same, length-take-le (length b - v) (drop v b) (omega (arith, length-drop v b)));
+        }
 
-        module _ {next len : ℕ} (e : z ≡ Bytes next len) (r : length a ≤ 65535) where
-          module _ (k : TypesIn s list) (q : Arguments s args) where
-            made : Sized (turn (h .is k q) l .first .type) (q .subst) p next len
-            made = size-made m (turn (h .is k q) l .first) q e
+        -- what the writer needs
+        pub writing-room : Room s p s args 0 (length (take (length b - v) (drop v b)))
+        writing-room = room
 
-            fits : (v + (length (encode (made .type)) + 2) ≤ length a) × Fit (λ t. instantiate t (q .subst)) (length a) (v + (length (encode (made .type)) + 2)) (turn (h .is k q) l .rest)
-            fits = first-fits (turn (h .is k q) l .state .fit) (made .here)
+      -- the writer was lent the free end
+      module _ {d : List ℕ} {r : Reached} (o : WroteAt s p s args (take (length b - v) (drop v b)) d r) where
+        module _ (k : TypesIn s list) (q : Arguments s args) where
+          exact : r .end ≡ length (encode (made k q .type))
+          exact = o .reached (room k q .filling)
 
-            exact : len ≡ length (encode (made .type))
-            exact = omega (arith, made .long, fits .0)
+          pub writing-fits : (v + (r .end + 2) ≤ length b) × (r .end ≤ 65535)
+          writing-fits = (omega (arith, exact, made k q .fits, h .same), omega (arith, exact, made k q .fits))
 
-            pub writing-fits : (v + (len + 2) ≤ length b) × (len ≤ 65535)
-            writing-fits = (omega (arith, exact, fits .0, h .same), omega (arith, exact, fits .0))
+          -- its bytes were made an entry
+          written : {c : List ℕ} → c ≡ spliced (putMid v (length b - v) b d) (v + r .end) (le16 (r .end)) → c ≡ entered b v (encode (made k q .type))
+          written j = sealed b v (encode (made k q .type)) exact (writing-fits .0) (lent b (encode (made k q .type)) v (o .is (room k q))) j
 
-            abbrev room : Room s p s args 0 (length (take (length b - v) (drop v b)))
-            room = record {
-              filling = record { from = turn (h .is k q) l .first; list = q; bytes = encode (made .type); is = made .bytes };
-              fits = omega (arith, exact, writing-fits .0, length-take-le (length b - v) (drop v b) (omega (arith, length-drop v b)));
+        pub writing-next :
+            TypesIn s list → Arguments s args → {c : List ℕ} {x : ℕ} → x ≡ v + (r .end + 2) →
+            c ≡ spliced (putMid v (length b - v) b d) (v + r .end) (le16 (r .end)) → Writing a w s list args c x (r .next) (i + 1)
+        writing-next k q {c} {x} n j =
+            let g : length c ≡ length b = ap length (written k q j) ∙ length-spliced b v _ (omega (arith, length-entry (encode (made k q .type)), exact k q, writing-fits k q .0)) in
+            record {
+              same = g ∙ h .same;
+              low = omega (arith, writing-fits k q .0);
+              is = λ k q.
+                  let t = turn (h .is k q) l in
+                  let u = made k q in
+                  let y : x ≡ v + (length (encode (u .type)) + 2) = omega (arith, exact k q) in
+                  turn-next t (o .ends (room k q .filling)) (record {
+                    leads = leads-on (t .state .leads) (write-each _ _ _ (u .here) (push-entered (encode (u .type)) (exact k q) (writing-fits k q .0) n (written k q j) .steps (u .type) refl) (sym (h .same)) refl);
+                    fit = rw y (u .others);
+                  });
             }
-
-            pub writing-room : Room s p s args 0 (length (take (length b - v) (drop v b)))
-            writing-room = room
-
-            -- the writer was lent the free end, and its bytes were made an entry
-            written : {d c : List ℕ} → WroteAt s p s args (take (length b - v) (drop v b)) d → c ≡ spliced (putMid v (length b - v) b d) (v + len) (le16 len) → c ≡ entered b v (encode (made .type))
-            written w j = sealed b v (encode (made .type)) exact (writing-fits .0) (lent b (encode (made .type)) v (w .is room)) j
-
-          pub writing-next :
-              TypesIn s list → Arguments s args → {d c : List ℕ} {x : ℕ} → WroteAt s p s args (take (length b - v) (drop v b)) d → x ≡ v + (len + 2) →
-              c ≡ spliced (putMid v (length b - v) b d) (v + len) (le16 len) → Writing a w s list args c x next (i + 1)
-          writing-next k q {d} {c} {x} o n j =
-              let g : length c ≡ length b = ap length (written k q o j) ∙ length-spliced b v _ (omega (arith, length-entry (encode (made k q .type)), exact k q, writing-fits k q .0)) in
-              record {
-                same = g ∙ h .same;
-                low = omega (arith, writing-fits k q .0);
-                is = λ k q.
-                    let t = turn (h .is k q) l in
-                    let u = made k q in
-                    let y : x ≡ v + (length (encode (u .type)) + 2) = omega (arith, exact k q) in
-                    turn-next t (u .ends) (record {
-                      leads = leads-on (t .state .leads) (write-each _ _ _ (u .here) (push-entered (encode (u .type)) (exact k q) (writing-fits k q .0) n (written k q o j) .steps (u .type) refl) (sym (h .same)) refl);
-                      fit = rw y (fits k q .1);
-                    });
-              }
 
 -- ── the two ──
 

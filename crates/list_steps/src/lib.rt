@@ -244,13 +244,9 @@ fn write_each(area: &mut [u8], weight: usize, s: &[u8], list: TypeList, args: &[
     let mut at = list.at;
     let mut i = 0;
     while i < n {
-        let size = substitution::instantiated_size(s, at, s, args);
-        let Size::Bytes { next, len } = size else {
-            return end; // not reached: every type that was weighed has a size
-        };
-        substitution_writer::instantiate_into(&mut area[end..], s, at, s, args);
-        end = type_pushes::seal(area, end, len);
-        at = next;
+        let written = substitution_writer::instantiate_into(&mut area[end..], s, at, s, args);
+        end = type_pushes::seal(area, end, written.end);
+        at = written.next;
         i += 1;
     }
     end

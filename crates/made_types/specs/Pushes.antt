@@ -21,6 +21,7 @@ use Rattle.substitution.specs.declared.Size.the-variants.{Bytes, Past}
 use Rattle.substitution.specs.Instantiate.{Arguments, filled, Instantiated, instantiated}
 use Rattle.substitution.specs.Past.{not-instantiated}
 use Rattle.substitution.specs.Size.{SizeAt, past, size-filling, size-long}
+use Rattle.substitution_writer.specs.declared.Reached.{Reached}
 use Rattle.substitution_writer.specs.Write.{WroteAt}
 use Rattle.materialize_type.specs.Materialize.{commandLength, length-short, ArgumentList, materialized, laid-long, MaterializedSize, StructRoom, MaterializedInto, MaterializedSame}
 use Rattle.type_stack.specs.Spliced.{spliced, over, length-spliced}
@@ -162,7 +163,7 @@ module _ {s : List ℕ} {at : ℕ} {args : List ℕ} {m : Bool} {a : List ℕ} {
     }
 
     pub field-pushed :
-        {c : ℕ} {g d b : List ℕ} {x : ℕ} → length a ≤ 65535 → ReferenceCommand m c → Under c (n + 1) a w g d b x → WroteAt s at s args (free g (w + 1)) d →
+        {c : ℕ} {g d b : List ℕ} {x : ℕ} {v : Reached} → length a ≤ 65535 → ReferenceCommand m c → Under c (n + 1) a w g d b x → WroteAt s at s args (free g (w + 1)) d v →
         PushesFieldReference m s at args a w b (Next x)
     field-pushed {g = g} l r y k = record {
       steps = λ p q.

@@ -19,30 +19,30 @@ use Rattle.signature_token.specs.Ends.{type-room, leaf-end, struct-end, 
 
 -- ── arguments before other types ──
 
-unfoldable before : SignatureTokens → SignatureTokens → SignatureTokens
+unfoldable pub before : SignatureTokens → SignatureTokens → SignatureTokens
 before []ᵗ us = us
 before (t ∷ᵗ ts) us = t ∷ᵗ before ts us
 
-before-count : (ts us : SignatureTokens) → count (before ts us) ≡ count ts + count us
+pub before-count : (ts us : SignatureTokens) → count (before ts us) ≡ count ts + count us
 unfolding before count
 before-count []ᵗ us = omega arith
 before-count (t ∷ᵗ ts) us = omega (arith, before-count ts us)
 
-before-bytes : (ts us : SignatureTokens) → encodeAll (before ts us) ≡ encodeAll ts ++ encodeAll us
+pub before-bytes : (ts us : SignatureTokens) → encodeAll (before ts us) ≡ encodeAll ts ++ encodeAll us
 unfolding before encode
 before-bytes []ᵗ us = refl
 before-bytes (t ∷ᵗ ts) us = ap (λ (bs : List ℕ). encode t ++ bs) (before-bytes ts us) ∙ sym (append-assoc (encode t) (encodeAll ts) (encodeAll us))
 
 -- ── what stands inside, before other bytes ──
 
-wrapped-opened :
+pub wrapped-opened :
     {s : List ℕ} {p x : ℕ} (v : Wrapper) (t u : SignatureToken) (bs : List ℕ) → u ≡ wrappedBy v t → x ≡ p + 1 → At s p (encode u ++ bs) → At s x (encode t ++ bs)
 unfolding encode
 wrapped-opened wrapper.Vector t u bs e z h = rw z (at-next (rw e at h))
 wrapped-opened wrapper.Reference t u bs e z h = rw z (at-next (rw e at h))
 wrapped-opened wrapper.MutableReference t u bs e z h = rw z (at-next (rw e at h))
 
-arguments-opened :
+pub arguments-opened :
     {s : List ℕ} {p x : ℕ} (i : ℕ) (ts : SignatureTokens) (u : SignatureToken) (bs : List ℕ) →
     u ≡ InstantiationOf i ts → x ≡ p + 4 → At s p (encode u ++ bs) → At s x (encodeAll ts ++ bs)
 unfolding encode
@@ -68,7 +68,7 @@ module _ {s : List ℕ} {at n p k : ℕ} {r : Token} (l : 0 < k) (c : Passing s 
   parameter-passed e q = left-after l (c q) (parameter-end w e) refl
 
   -- the inner type is left in the place of the one around it
-  pub wrapped-passed : {v : Wrapper} {x : ℕ} → r ≡ Wrapped v x → Passing s at n x k
+  unfoldable pub wrapped-passed : {v : Wrapper} {x : ℕ} → r ≡ Wrapped v x → Passing s at n x k
   unfolding count encode
   wrapped-passed {v} e q =
       let f = first-left l (c q) in
@@ -82,7 +82,7 @@ module _ {s : List ℕ} {at n p k : ℕ} {r : Token} (l : 0 < k) (c : Passing s 
       }
 
   -- the arguments are left in the place of the struct
-  pub instantiation-passed : {h : StructHandleIndex} {m x : ℕ} → r ≡ StructInstantiation h m x → Passing s at n x (k - 1 + m)
+  unfoldable pub instantiation-passed : {h : StructHandleIndex} {m x : ℕ} → r ≡ StructInstantiation h m x → Passing s at n x (k - 1 + m)
   instantiation-passed {h} e q =
       let f = first-left l (c q) in
       let i = instantiation-at w (record { type = f .first; stands = f .stands }) e in
@@ -123,7 +123,7 @@ left-room r = omega (arith, r .counted, count-long (r .others), at-room (r .stan
 
 -- ── a list of one type ──
 
-pub one-type : {s : List ℕ} {at : ℕ} → TypeAt s at → TypesAt s at 1
+unfoldable pub one-type : {s : List ℕ} {at : ℕ} → TypeAt s at → TypesAt s at 1
 unfolding count encode
 one-type p = record { types = p .type ∷ᵗ []ᵗ; counted = refl; stands = rw (append-nil (encode (p .type))) (p .stands) }
 

@@ -1,11 +1,10 @@
 -- A walk that knows that the parameters of a type are replaced by something: the bytes that come of it, from the type down to the types
--- below it; and the walk along the types of a list, which the size, the writer and the comparison have in common.
+-- below it; and the walk along the types of a list, which the writer and the comparison have in common.
 use mathlib.Core.Path.{_≡_, refl, sym, ap, _∙_}
 use mathlib.Core.List.{List, [], _++_, append-nil}
 use Prim.Native.Nat.{ℕ, _+_, _-_, _≤_, _<_}
 use native.Mathlib.Omega.{arith}
 use lib.ListN.{length, take, drop, getD, length-append}
-use Rattle.status.specs.declared.StatusCode.{StatusCode}
 use Rattle.definitions.specs.Result.{Result, ok, err, _>>?_}
 use Rattle.definitions.specs.SignatureToken.{SignatureToken, SignatureTokens, Signature, count, encode, encodeAll}
 use Rattle.definitions.specs.Places.{At, TypeAt, TypesAt, EndOfType}
@@ -231,10 +230,6 @@ module _ {ty : List ℕ} {at n : ℕ} {ts : SignatureTokens} {subst : Signature}
       turned = let k = next-is l (g .rest) in
           g .whole ∙ ap (λ (us : SignatureTokens). after (g .done) (filledAll us subst)) (k .is)
           ∙ ap (after (g .done)) (filled-more (k .first) (k .others) subst)
-
-      pub gone-past : {z : StatusCode} → filled (turn .type) subst ≡ err z → filledAll ts subst ≡ err z
-      unfolding after _>>?_
-      gone-past e = turned ∙ rw e
 
       pub gone-next : {S′ : List ℕ → Type 0} {bs : List ℕ} {e : ℕ} → filled (turn .type) subst ≡ ok bs → e ≡ p + length (encode (turn .type)) → S′ (g .done ++ bs) → Gone ty at n ts subst e (i + 1) S′
       unfolding after _>>?_

@@ -1,7 +1,7 @@
 -- The bytes of a type whose parameters are replaced, by what `token_at` found of it: each type gives its own command's bytes and then the
 -- bytes of the types below it, and a parameter gives the bytes of its argument. The laws are those of every walk: size, writer, comparison.
 use mathlib.Core.Path.{_≡_, refl, sym, ap, _∙_}
-use mathlib.Core.List.{List, [], _∷_, _++_, append-assoc}
+use mathlib.Core.List.{List, [], _∷_, _++_, append-assoc, append-nil}
 use mathlib.Core.Option.{none}
 use Prim.Native.Nat.{ℕ, zero, suc, _/_, _%_, _≤_, _<_}
 use native.Mathlib.Omega.{arith}
@@ -19,6 +19,7 @@ use Rattle.signature_token.specs.declared.Wrapper.the-variants as wrapper
 use Rattle.signature_token.specs.declared.Token.{Token}
 use Rattle.signature_token.specs.declared.Token.the-variants.{Leaf, Wrapped, Struct, StructInstantiation, TypeParameter}
 use Rattle.signature_token.specs.Token.{TokenAt, wrappedBy}
+use Rattle.signature_token.specs.Passing.{before}
 use Rattle.signature_token.specs.TokenLaws.{IsLeaf, is-bool, is-u8, is-u64, is-u128, is-address, is-signer, leaf-long, leaf-at, wrapped-at, struct-at, instantiation-at, parameter-at}
 
 -- ── the words ──
@@ -76,6 +77,37 @@ filled-more t ts subst = go (instantiate t subst) (instantiateAll ts subst)
         ((r >>? λ t′. rs >>? λ ts′. ok (t′ ∷ᵗ ts′)) >>? λ us. ok (encodeAll us)) ≡ ((r >>? λ u. ok (encode u)) >>? λ bs. after bs (rs >>? λ us. ok (encodeAll us)))
     go (ok t′) (ok ts′) = refl
     go (ok t′) (err z) = refl
+    go (err z) rs = refl
+
+-- one type alone
+pub filled-one : (t : SignatureToken) (subst : Signature) → filledAll (t ∷ᵗ []ᵗ) subst ≡ filled t subst
+unfolding after _>>?_
+filled-one t subst = filled-more t []ᵗ subst ∙ rw (filled-none subst) (go (filled t subst))
+  where
+    go : (r : Result (List ℕ)) → (r >>? λ bs. after bs (ok [])) ≡ r
+    go (ok bs) = ap ok (append-nil bs)
+    go (err z) = refl
+
+-- what has bytes in front, before others: they stand in front of it all
+pub filled-opened : {r : Result (List ℕ)} (cs : List ℕ) (r′ others : Result (List ℕ)) → r ≡ after cs r′ → (r >>? λ bs. after bs others) ≡ after cs (r′ >>? λ bs. after bs others)
+unfolding after _>>?_
+filled-opened cs r′ others e = rw e (go r′)
+  where
+    go : (r″ : Result (List ℕ)) → (after cs r″ >>? λ bs. after bs others) ≡ after cs (r″ >>? λ bs. after bs others)
+    go (ok ds) = sym (after-after cs ds others)
+    go (err z) = refl
+
+-- types before other types
+pub filled-before : (ts us : SignatureTokens) (subst : Signature) → filledAll (before ts us) subst ≡ (filledAll ts subst >>? λ bs. after bs (filledAll us subst))
+unfolding before after _>>?_
+filled-before []ᵗ us subst = rw (filled-none subst) (after-nil (filledAll us subst))
+filled-before (t ∷ᵗ ts) us subst =
+    filled-more t (before ts us) subst ∙ rw (filled-before ts us subst, filled-more t ts subst) (go (filled t subst) (filledAll ts subst))
+  where
+    go : (r rs : Result (List ℕ)) →
+        (r >>? λ bs. after bs (rs >>? λ cs. after cs (filledAll us subst))) ≡ ((r >>? λ bs. after bs rs) >>? λ cs. after cs (filledAll us subst))
+    go (ok bs) (ok cs) = after-after bs cs (filledAll us subst)
+    go (ok bs) (err z) = refl
     go (err z) rs = refl
 
 -- as many types as there were

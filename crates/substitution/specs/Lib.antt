@@ -2,4 +2,5 @@
 pub mod Instantiate
 pub mod Filling
 pub mod Size
+pub mod Counting
 pub mod Past

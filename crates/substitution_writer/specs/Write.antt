@@ -33,9 +33,12 @@ pub record WroteFrom (ty : List ℕ) (at : ℕ) (args places : List ℕ) (w : �
 pub record WroteAllFrom (ty : List ℕ) (at n : ℕ) (args places : List ℕ) (w : ℕ) (d d′ : List ℕ) (r : Reached) : Type 0 where
   pub is : (f : Fillings ty at n args places) → Wrote w (f .bytes) (at + length (encodeAll (f .from .types))) d d′ r
 
--- d became d′, which begins with the bytes of the type at `at` of ty, with the arguments in its parameters' places
-pub record WroteAt (ty : List ℕ) (at : ℕ) (args places : List ℕ) (d d′ : List ℕ) : Type 0 where
+-- d became d′, which begins with the bytes of the type at `at` of ty, with the arguments in its parameters' places; r is where the type ends and
+-- where they do
+pub record WroteAt (ty : List ℕ) (at : ℕ) (args places : List ℕ) (d d′ : List ℕ) (r : Reached) : Type 0 where
   pub is : (m : Room ty at args places 0 (length d)) → d′ ≡ over (m .filling .bytes) d
+  pub ends : (f : Filling ty at args places) → r .next ≡ at + length (encode (f .from .type))
+  pub reached : (f : Filling ty at args places) → r .end ≡ length (f .bytes)
 
 -- the argument at `from` was written into d at w, and ends at e
 pub record ArgumentWritten (args : List ℕ) (from w : ℕ) (d d′ : List ℕ) (e : ℕ) : Type 0 where
@@ -156,13 +159,15 @@ module _ {ty : List ℕ} {at n : ℕ} {args places : List ℕ} {w : ℕ} {d : Li
     writing-long f = let h = g .is f in ap length (h .state .now) ∙ length-sets d w (h .done)
 
 -- at the front of a slice
-pub wrote-at : {ty : List ℕ} {at : ℕ} {args places d d′ : List ℕ} {r : Reached} → WroteFrom ty at args places 0 d d′ r → WroteAt ty at args places d d′
+pub wrote-at : {ty : List ℕ} {at : ℕ} {args places d d′ : List ℕ} {r : Reached} → WroteFrom ty at args places 0 d d′ r → WroteAt ty at args places d d′ r
 wrote-at {ty} {at} {args} {places} {d} v = record {
   is = λ m. v .is (m .filling) .now ∙ sets-over d (m .filling .bytes) (omega (arith, m .fits));
+  ends = λ f. v .is f .ends;
+  reached = λ f. omega (arith, v .is f .reached);
 }
 
 -- a leaf at the front of a slice: its command is stored there
 pub leaf-at-front :
     {ty : List ℕ} {at : ℕ} {r : Token} {args places d : List ℕ} {b : ℕ} → TokenAt ty at r → TypeAt ty at → r ≡ Leaf b →
-    WroteAt ty at args places d (set d 0 b)
+    WroteAt ty at args places d (set d 0 b) (at-end (at + 1) 1)
 leaf-at-front {ty} {at} {r} {args} {places} {d} t p e = wrote-at (leaf-wrote t e (rw (leaf-byte t p e) at (byte-copied d 0 ty at (at-some p))))

@@ -6,9 +6,9 @@ ghost use Rattle.substitution.specs.Filling.{Room, Rooms, ArgumentRoom};
 ghost use Rattle.substitution_writer.specs.Write.{ArgumentWritten, WroteFrom, WroteAllFrom, WroteAt};
 
 // Where a type ends in ty, and where its bytes end that were written.
-struct Reached {
-    next: usize,
-    end: usize,
+pub struct Reached {
+    pub next: usize,
+    pub end: usize,
 }
 
 // Writes the argument at `from` into out at w.
@@ -83,14 +83,23 @@ fn write_types(
 
 // `instantiate`: writes the type at `at` of ty, its parameters replaced, to the front of out. A leaf has its own way, since most types are
 // leaves: it saves the call into the walk.
-pub fn instantiate_into(out: &mut [u8], ty: &[u8], at: usize, args: &[u8], places: &[u16])
+pub fn instantiate_into(
+    out: &mut [u8],
+    ty: &[u8],
+    at: usize,
+    args: &[u8],
+    places: &[u16],
+) -> Reached
     requires { ⌜ Room (now ty) at (now args) (now places) 0 (length (now out)) ⌝ }
-    ensures { λ _. ⌜ WroteAt (now (ty .entry)) at (now (args .entry)) (now (places .entry)) (now (out .entry)) (now (out .exit)) ⌝ }
+    ensures { λ r. ⌜ WroteAt (now (ty .entry)) at (now (args .entry)) (now (places .entry)) (now (out .entry)) (now (out .exit)) r ⌝ }
 {
     let token = signature_token::token_at(ty, at);
     let Token::Leaf(command) = token else {
-        write_type(out, 0, ty, at, args, places);
-        return;
+        return write_type(out, 0, ty, at, args, places);
     };
     out[0] = command;
+    Reached {
+        next: at + 1,
+        end: 1,
+    }
 }
