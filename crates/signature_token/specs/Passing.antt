@@ -48,6 +48,37 @@ pub arguments-opened :
 unfolding encode
 arguments-opened i ts u bs e z h = rw z (at-back (0x09 ∷ i % 256 ∷ i / 256 ∷ count ts ∷ []) (encodeAll ts ++ bs) (rw e at h))
 
+-- ── a type that is opened ──
+
+module _ {s : List ℕ} {at : ℕ} {ts : SignatureTokens} {p k : ℕ} {r : Token} (l : 0 < k) (o : Left s at ts p k) (w : TokenAt s p r) where
+  -- the inner type is left in the place of the one around it
+  unfoldable pub wrapped-left : {v : Wrapper} {x : ℕ} → r ≡ Wrapped v x → Left s at ts x k
+  unfolding count encode
+  wrapped-left {v} e =
+      let f = first-left l o in
+      let i = wrapped-at w (record { type = f .first; stands = f .stands }) e in
+      record {
+        others = i .inner ∷ᵗ f .others;
+        counted = omega (arith, f .counted);
+        stands = wrapped-opened v (i .inner) (f .first) (encodeAll (f .others)) (i .is) (i .place) (f .whole);
+        past = omega (arith, o .past, i .place);
+        ends = omega (arith, o .ends, i .place, i .long, f .long, length-append (encode (i .inner)) (encodeAll (f .others)));
+      }
+
+  -- the arguments are left in the place of the struct
+  unfoldable pub instantiation-left : {h : StructHandleIndex} {m x : ℕ} → r ≡ StructInstantiation h m x → Left s at ts x (k - 1 + m)
+  instantiation-left {h} e =
+      let f = first-left l o in
+      let i = instantiation-at w (record { type = f .first; stands = f .stands }) e in
+      let b = before-bytes (i .types) (f .others) in
+      record {
+        others = before (i .types) (f .others);
+        counted = omega (arith, f .counted, i .counted, before-count (i .types) (f .others));
+        stands = rw b (arguments-opened (h .0) (i .types) (f .first) (encodeAll (f .others)) (i .is) (i .place) (f .whole));
+        past = omega (arith, o .past, i .place);
+        ends = omega (arith, o .ends, i .place, i .long, f .long, ap length b, length-append (encodeAll (i .types)) (encodeAll (f .others)));
+      }
+
 -- ── a turn of the loop ──
 
 -- whatever types stand at `at`, k types at p are left of them
@@ -67,33 +98,11 @@ module _ {s : List ℕ} {at n p k : ℕ} {r : Token} (l : 0 < k) (c : Passing s 
   pub parameter-passed : {i : ℕ} → r ≡ TypeParameter i → Passing s at n (p + 3) (k - 1)
   parameter-passed e q = left-after l (c q) (parameter-end w e) refl
 
-  -- the inner type is left in the place of the one around it
-  unfoldable pub wrapped-passed : {v : Wrapper} {x : ℕ} → r ≡ Wrapped v x → Passing s at n x k
-  unfolding count encode
-  wrapped-passed {v} e q =
-      let f = first-left l (c q) in
-      let i = wrapped-at w (record { type = f .first; stands = f .stands }) e in
-      record {
-        others = i .inner ∷ᵗ f .others;
-        counted = omega (arith, f .counted);
-        stands = wrapped-opened v (i .inner) (f .first) (encodeAll (f .others)) (i .is) (i .place) (f .whole);
-        past = omega (arith, c q .past, i .place);
-        ends = omega (arith, c q .ends, i .place, i .long, f .long, length-append (encode (i .inner)) (encodeAll (f .others)));
-      }
+  pub wrapped-passed : {v : Wrapper} {x : ℕ} → r ≡ Wrapped v x → Passing s at n x k
+  wrapped-passed e q = wrapped-left l (c q) w e
 
-  -- the arguments are left in the place of the struct
-  unfoldable pub instantiation-passed : {h : StructHandleIndex} {m x : ℕ} → r ≡ StructInstantiation h m x → Passing s at n x (k - 1 + m)
-  instantiation-passed {h} e q =
-      let f = first-left l (c q) in
-      let i = instantiation-at w (record { type = f .first; stands = f .stands }) e in
-      let b = before-bytes (i .types) (f .others) in
-      record {
-        others = before (i .types) (f .others);
-        counted = omega (arith, f .counted, i .counted, before-count (i .types) (f .others));
-        stands = rw b (arguments-opened (h .0) (i .types) (f .first) (encodeAll (f .others)) (i .is) (i .place) (f .whole));
-        past = omega (arith, c q .past, i .place);
-        ends = omega (arith, c q .ends, i .place, i .long, f .long, ap length b, length-append (encodeAll (i .types)) (encodeAll (f .others)));
-      }
+  pub instantiation-passed : {h : StructHandleIndex} {m x : ℕ} → r ≡ StructInstantiation h m x → Passing s at n x (k - 1 + m)
+  instantiation-passed e q = instantiation-left l (c q) w e
 
   -- ── there is room, and fewer bytes are left ──
 

@@ -1,5 +1,5 @@
 -- A walk that knows that the parameters of a type are replaced by something: the bytes that come of it, from the type down to the types
--- below it; and the walk along the types of a list, which the writer and the comparison have in common.
+-- below it; and the writer's walk along the types of a list.
 use mathlib.Core.Path.{_≡_, refl, sym, ap, _∙_}
 use mathlib.Core.List.{List, [], _++_, append-nil}
 use Prim.Native.Nat.{ℕ, _+_, _-_, _≤_, _<_}

@@ -2,5 +2,6 @@
 pub mod Instantiate
 pub mod Filling
 pub mod Size
+pub mod Opening
 pub mod Counting
 pub mod Past

@@ -1,15 +1,15 @@
 // `instantiate` of type_safety.rs over a type's bytes, and `==`: the type with its parameters replaced is compared with a type that stands
 // elsewhere, without being written.
+use numbers::widest;
 use signature_token::Token;
 use substitution::Size;
-ghost use Prim.Native.Nat.{_≤_};
-ghost use lib.ListN.{length};
-ghost use Rattle.definitions.specs.Places.{TypeAt};
+ghost use Prim.Native.Nat.{_-_, _≤_, _<_};
+ghost use lib.ListN.{length, take, drop};
+ghost use Rattle.definitions.specs.Places.{TypeAt, TypesAt};
 ghost use Rattle.signature_token.specs.Same.{Spans};
-ghost use Rattle.byte_parts.specs.Bytes.{Fits};
 ghost use Rattle.substitution.specs.Instantiate.{Arguments};
-ghost use Rattle.substitution.specs.Filling.{Room, Rooms, ArgumentRoom};
-ghost use Rattle.substitution_comparison.specs.Compare.{PartMatched, ArgumentMatched, MatchFrom, MatchAllFrom, ComparedAt};
+ghost use Rattle.substitution_comparison.specs.Matching.{PartMatched, ArgumentMatched, FirstMatched, SameFilled};
+ghost use Rattle.substitution_comparison.specs.Compare.{ComparedAt};
 
 // How a type that stands elsewhere compares with a type whose parameters are replaced. A parameter's number past the list comes first.
 pub enum Comparison {
@@ -18,85 +18,135 @@ pub enum Comparison {
     Past,
 }
 
-// Whether the bytes at a place are those of a type: where the type ends, and where the bytes end.
+// Whether what a type gives stands at a place of other bytes: where it ends there, where the next type stands, and how many types are left.
 enum Match {
-    Upto { next: usize, end: usize },
+    Upto {
+        reached: usize,
+        next: usize,
+        left: usize,
+    },
     No,
 }
 
-// Whether the bytes at x of s are the n bytes at y of b, those of a type that ends at `next`.
-fn match_part(s: &[u8], x: usize, b: &[u8], y: usize, n: usize, next: usize) -> Match
-    requires { ⌜ Fits (now b) y n x (length (now s)) ⌝ }
-    ensures { λ r. ⌜ PartMatched (now (s .entry)) x (now (b .entry)) y n next r ⌝ }
+// Whether the n bytes at y of b stand at e of s and end by `end`. `next` and `left` are handed on.
+fn match_part(
+    s: &[u8],
+    e: usize,
+    end: usize,
+    b: &[u8],
+    y: usize,
+    n: usize,
+    next: usize,
+    left: usize,
+) -> Match
+    requires { ⌜ (e ≤ end) × (end ≤ length (now s)) ⌝ }
+    requires { ⌜ n ≤ length (now b) - y ⌝ }
+    ensures { λ r. ⌜ PartMatched (now (s .entry)) e end (take n (drop y (now (b .entry)))) next left r ⌝ }
 {
-    if byte_parts::same_bytes(s, x, b, y, n) {
-        return Match::Upto { next, end: x + n };
+    if end - e < n {
+        return Match::No;
+    }
+    if byte_parts::same_bytes(s, e, b, y, n) {
+        return Match::Upto {
+            reached: e + n,
+            next,
+            left,
+        };
     }
     Match::No
 }
 
-// Whether the bytes at x of s are those of the argument at `from`.
-fn match_argument(s: &[u8], x: usize, args: &[u8], from: usize, next: usize) -> Match
-    requires { ⌜ ArgumentRoom (now args) from x (length (now s)) ⌝ }
-    ensures { λ r. ⌜ ArgumentMatched (now (args .entry)) from (now (s .entry)) x next r ⌝ }
-{
-    let len = signature_token::end_of_type(args, from) - from;
-    match_part(s, x, args, from, len, next)
-}
-
-// Whether the bytes at x of s are those of the type at `at` of ty, its parameters replaced.
-fn match_type(s: &[u8], x: usize, ty: &[u8], at: usize, args: &[u8], places: &[u16]) -> Match
-    requires { ⌜ Room (now ty) at (now args) (now places) x (length (now s)) ⌝ }
-    ensures { λ r. ⌜ MatchFrom (now (ty .entry)) at (now (args .entry)) (now (places .entry)) (now (s .entry)) x r ⌝ }
-{
-    match signature_token::token_at(ty, at) {
-        Token::Leaf(_) => match_part(s, x, ty, at, 1, at + 1),
-        Token::Wrapped(_, inner) => {
-            if !byte_parts::same_bytes(s, x, ty, at, 1) {
-                return Match::No;
-            }
-            match_type(s, x + 1, ty, inner, args, places)
-        }
-        Token::Struct(_) => match_part(s, x, ty, at, 3, at + 3),
-        Token::StructInstantiation(_, n, first) => {
-            if !byte_parts::same_bytes(s, x, ty, at, 4) {
-                return Match::No;
-            }
-            match_types(s, x + 4, ty, first, n, args, places)
-        }
-        Token::TypeParameter(i) => match_argument(s, x, args, places[i] as usize, at + 3),
-    }
-}
-
-// The same of the n types at `at`.
-fn match_types(
+// The same of the argument that takes the place of parameter i; there is none where its number is past the list.
+fn match_argument(
     s: &[u8],
-    x: usize,
+    e: usize,
+    end: usize,
+    args: &[u8],
+    places: &[u16],
+    i: usize,
+    next: usize,
+    left: usize,
+) -> Match
+    requires { ⌜ (e ≤ end) × (end ≤ length (now s)) ⌝ }
+    requires { ⌜ Arguments (now args) (now places) ⌝ }
+    ensures { λ r. ⌜ ArgumentMatched (now (s .entry)) e end (now (args .entry)) (now (places .entry)) i next left r ⌝ }
+{
+    if places.len() <= i {
+        return Match::No;
+    }
+    let from = widest(places[i]);
+    let len = signature_token::end_of_type(args, from) - from;
+    match_part(s, e, end, args, from, len, next, left)
+}
+
+// The same of the first of the types that are left, which stand at p of ty: its own bytes, or those of the argument. What is inside it is left in
+// its place.
+fn match_first(
+    s: &[u8],
+    e: usize,
+    end: usize,
     ty: &[u8],
-    at: usize,
-    n: usize,
+    p: usize,
+    left: usize,
     args: &[u8],
     places: &[u16],
 ) -> Match
-    requires { ⌜ Rooms (now ty) at n (now args) (now places) x (length (now s)) ⌝ }
-    ensures { λ r. ⌜ MatchAllFrom (now (ty .entry)) at n (now (args .entry)) (now (places .entry)) (now (s .entry)) x r ⌝ }
+    requires { ⌜ (e ≤ end) × (end ≤ length (now s)) ⌝ }
+    requires { ⌜ (0 < left) × TypesAt (now ty) p left ⌝ }
+    requires { ⌜ Arguments (now args) (now places) ⌝ }
+    ensures { λ r. ⌜ FirstMatched (now (s .entry)) e end (now (ty .entry)) p left (now (args .entry)) (now (places .entry)) r ⌝ }
 {
-    let mut p = at;
-    let mut e = x;
-    let mut i = 0;
-    while i < n {
-        let one = match_type(s, e, ty, p, args, places);
-        let Match::Upto { next, end } = one else {
-            return Match::No;
-        };
-        p = next;
-        e = end;
-        i += 1;
+    match signature_token::token_at(ty, p) {
+        Token::Leaf(_) => match_part(s, e, end, ty, p, 1, p + 1, left - 1),
+        Token::Wrapped(_, inner) => match_part(s, e, end, ty, p, 1, inner, left),
+        Token::Struct(_) => match_part(s, e, end, ty, p, 3, p + 3, left - 1),
+        Token::StructInstantiation(_, k, first) => {
+            match_part(s, e, end, ty, p, 4, first, left - 1 + k)
+        }
+        Token::TypeParameter(i) => match_argument(s, e, end, args, places, i, p + 3, left - 1),
     }
-    Match::Upto { next: p, end: e }
 }
 
-// `compare_instantiated` by walks. The sizes are compared first: that walk tests the number of every parameter.
+// Whether the len bytes at x of s are those of the type at `at` of ty, its parameters replaced. It is no such type where a parameter's number is past
+// the list.
+fn same_instantiated(
+    s: &[u8],
+    x: usize,
+    len: usize,
+    ty: &[u8],
+    at: usize,
+    args: &[u8],
+    places: &[u16],
+) -> bool
+    requires { ⌜ Spans (now s) x len ⌝ }
+    requires { ⌜ TypeAt (now ty) at ⌝ }
+    requires { ⌜ Arguments (now args) (now places) ⌝ }
+    ensures { λ r. ⌜ SameFilled (now (s .entry)) x len (now (ty .entry)) at (now (args .entry)) (now (places .entry)) r ⌝ }
+{
+    let end = x + len;
+    let mut e = x;
+    let mut p = at;
+    let mut left = 1usize;
+    while 0 < left {
+        match match_first(s, e, end, ty, p, left, args, places) {
+            Match::No => {
+                return false;
+            }
+            Match::Upto {
+                reached,
+                next,
+                left: others,
+            } => {
+                e = reached;
+                p = next;
+                left = others;
+            }
+        }
+    }
+    e == end
+}
+
+// `compare_instantiated` by walks. Where the bytes differ, a second walk tells whether a parameter's number is past the list.
 fn compare_walked(
     s: &[u8],
     x: usize,
@@ -107,23 +157,18 @@ fn compare_walked(
     places: &[u16],
 ) -> Comparison
     requires { ⌜ Spans (now s) x len ⌝ }
-    requires { ⌜ len ≤ 65535 ⌝ }
     requires { ⌜ TypeAt (now ty) at ⌝ }
     requires { ⌜ Arguments (now args) (now places) ⌝ }
     ensures { λ r. ⌜ ComparedAt (now (s .entry)) x len (now (ty .entry)) at (now (args .entry)) (now (places .entry)) r ⌝ }
 {
+    if same_instantiated(s, x, len, ty, at, args, places) {
+        return Comparison::Same;
+    }
     let size = substitution::instantiated_size(ty, at, args, places);
-    let Size::Bytes { next: _, len: n } = size else {
+    let Size::Bytes { next: _, len: _ } = size else {
         return Comparison::Past;
     };
-    if n != len {
-        return Comparison::Differs;
-    }
-    let found = match_type(s, x, ty, at, args, places);
-    let Match::Upto { next: _, end: _ } = found else {
-        return Comparison::Differs;
-    };
-    Comparison::Same
+    Comparison::Differs
 }
 
 // `instantiate` and `==`: whether the type of len bytes at x of s is the type at `at` of ty, its parameters replaced. A leaf has its own
