@@ -5,7 +5,7 @@ use mathlib.Core.List.{List}
 use Prim.Native.Nat.{ℕ, _+_, _-_, _≤_, _<_}
 use lib.ListN.{length, take, drop}
 use Rattle.status.specs.declared.StatusCode.the-variants.{«OUT_OF_TABLE»}
-use Rattle.definitions.specs.Result.{ok, err, _>>?_}
+use Rattle.definitions.specs.Result.{Result, ok, err, _>>?_}
 use Rattle.definitions.specs.SignatureToken.{SignatureTokens, Signature, encode}
 use Rattle.definitions.specs.Places.{TypeAt, EndOfType, Standing}
 use Rattle.file_format.specs.declared.StructHandleIndex.{StructHandleIndex}
@@ -39,6 +39,12 @@ module _ {ty : List ℕ} {at : ℕ} {ts : SignatureTokens} {p k : ℕ} (l : 0 < 
     unfolding _>>?_
     passed-whole ends h = record { left = left-after l o ends refl; is = rw h at apart }
 
+    -- it gives bs, and what stands inside it is left in its place
+    opened-inside :
+        {bs : List ℕ} {x j : ℕ} (inside : Result (List ℕ)) → filled (first .type) subst ≡ after bs inside → (left : Left ty at ts x j) →
+        filledAll (left .others) subst ≡ (inside >>? λ cs. after cs (filledAll (first-left l o .others) subst)) → Opened o subst bs x j
+    opened-inside {bs} inside h left e = record { left = left; is = apart ∙ filled-opened bs inside _ h ∙ ap (after bs) (sym e) }
+
     module _ {r : Token} (w : TokenAt ty p r) where
       pub leaf-opened : {b : ℕ} → r ≡ Leaf b → Opened o subst (take 1 (drop p ty)) (p + 1) (k - 1)
       leaf-opened e = passed-whole (leaf-end w e) (leaf-filled w first subst e)
@@ -59,26 +65,13 @@ module _ {ty : List ℕ} {at : ℕ} {ts : SignatureTokens} {p k : ℕ} (l : 0 < 
       pub inner-opened : {v : Wrapper} {y : ℕ} → r ≡ Wrapped v y → Opened o subst (take 1 (drop p ty)) y k
       unfolding wrapped-left
       inner-opened e =
-          let f = first-left l o in
           let i = wrapped-at w first e in
-          let bs = take 1 (drop p ty) in
-          record {
-            left = wrapped-left l o w e;
-            is = apart
-                ∙ filled-opened bs (filled (i .inner) subst) (filledAll (f .others) subst) (wrapped-filled w first subst e)
-                ∙ ap (after bs) (sym (filled-more (i .inner) (f .others) subst));
-          }
+          opened-inside (filled (i .inner) subst) (wrapped-filled w first subst e) (wrapped-left l o w e) (filled-more (i .inner) (first-left l o .others) subst)
 
       -- the arguments are left in the place of the struct
       pub arguments-opened : {h : StructHandleIndex} {m y : ℕ} → r ≡ StructInstantiation h m y → Opened o subst (take 4 (drop p ty)) y (k - 1 + m)
       unfolding instantiation-left
       arguments-opened e =
-          let f = first-left l o in
           let i = instantiation-at w first e in
-          let bs = take 4 (drop p ty) in
-          record {
-            left = instantiation-left l o w e;
-            is = apart
-                ∙ filled-opened bs (filledAll (i .types) subst) (filledAll (f .others) subst) (instantiation-filled w first subst e)
-                ∙ ap (after bs) (sym (filled-before (i .types) (f .others) subst));
-          }
+          opened-inside (filledAll (i .types) subst) (instantiation-filled w first subst e) (instantiation-left l o w e)
+          (filled-before (i .types) (first-left l o .others) subst)
