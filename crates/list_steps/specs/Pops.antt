@@ -13,14 +13,14 @@ use Rattle.definitions.specs.SignatureToken.{SignatureToken, Signature, same}
 use Rattle.definitions.specs.Machine.{_>>=_, look, check, popOne, popEach, run}
 use Rattle.definitions.specs.Places.{TypeAt, Standing, none, more}
 use Rattle.record_views.specs.declared.TypeList.{TypeList}
-use Rattle.signature_token.specs.Same.{Spans, SameAt}
+use Rattle.signature_token.specs.Same.{SameAt, spanned}
 use Rattle.substitution_comparison.specs.declared.Comparison.{Comparison}
 use Rattle.substitution_comparison.specs.declared.Comparison.the-variants.{Same, Differs, Past}
 use Rattle.substitution.specs.Instantiate.{Arguments}
 use Rattle.substitution_comparison.specs.Compare.{ComparedAt, compared}
 use Rattle.substitution.specs.Past.{instantiate-past}
 use Rattle.type_stack.specs.Held.{Stacked, Holds}
-use Rattle.type_stack.specs.Tops.{TopOf, topped}
+use Rattle.type_stack.specs.Tops.{TopOf}
 use Rattle.type_stack.specs.Stepping.{StepsTo, done-here, look-then, look-bad, check-last, check-last-bad, pop-then, and-stacked}
 use Rattle.type_stack.specs.Leading.{Leads, leads-here, leads-on, leads-then, leads-done}
 use Rattle.type_stack.specs.Listed.{pop-each, pop-each-bad}
@@ -28,7 +28,7 @@ use Rattle.type_stack.specs.declared.Stepped.{Stepped}
 use Rattle.type_stack.specs.declared.Stepped.the-variants.{Next, Refused}
 use Rattle.type_stack.specs.declared.Top.{Top}
 use Rattle.type_stack.specs.declared.Top.the-variants.{Entry}
-use Rattle.operand_steps.specs.Operands.{span, top-room}
+use Rattle.operand_steps.specs.Operands.{span}
 use Rattle.list_steps.specs.declared.Form.{Form}
 use Rattle.list_steps.specs.declared.Form.the-variants.{Written, Instantiated}
 use Rattle.list_steps.specs.Forms.{formed, FormComparedAt, PopsEach}
@@ -36,9 +36,9 @@ use Rattle.list_steps.specs.Forms.{formed, FormComparedAt, PopsEach}
 -- ── a comparison ──
 
 module _ {form : Form} {a : List ℕ} {x len : ℕ} {s : List ℕ} {at : ℕ} {args : List ℕ} where
-  pub instantiated-compared : {r : Comparison} → form ≡ Instantiated → ComparedAt a x len s at s args r → FormComparedAt form a x len s at args r
+  pub instantiated-compared : {r : Comparison} → form ≡ Instantiated → ComparedAt a x s at s args r → FormComparedAt form a x len s at args r
   unfolding formed
-  instantiated-compared e k = rw e (record { is = k .is })
+  instantiated-compared e k = rw e (record { is = λ p. k .is (spanned p) })
 
   module _ {b : Bool} (e : form ≡ Written) (k : SameAt a x len s at b) where
     pub written-same : b ≡ true → FormComparedAt form a x len s at args Same
@@ -74,10 +74,6 @@ formed-past Written subst t z e = let n : _≡_ {A = ℕ} 0 1 = cc in absurd (om
 formed-past Instantiated subst t z e = instantiate-past t subst e
 
 module _ {a : List ℕ} {w : ℕ} {q : Top} {x l : ℕ} where
-  -- the operand, as the comparison takes it
-  pub top-span : Stacked a w → TopOf a w q → q ≡ Entry x l → Spans a x l × (l ≤ 65535)
-  top-span k p i = (span (topped k p i .here), omega (arith, k .small, top-room k p i .1))
-
   pub pop-compared :
       TopOf a w q → q ≡ Entry x l → {form : Form} {s : List ℕ} {at : ℕ} {args : List ℕ} {r : Comparison} → FormComparedAt form a x l s at args r →
       (y : StatusCode) (v : Comparison) → r ≡ v → (p : TypeAt s at) (e : Arguments s args) → StepsTo (popOne y (formed form (e .subst)) (p .type)) a w a (answered y x v)

@@ -48,21 +48,15 @@ fn compare(
     form: Form,
     args: &[u16],
 ) -> Comparison
-    requires { ⌜ Spans (now area) start len × (len ≤ 65535) ⌝ }
+    requires { ⌜ Spans (now area) start len ⌝ }
     requires { ⌜ TypeAt (now s) at ⌝ }
     requires { ⌜ Arguments (now s) (now args) ⌝ }
     ensures { λ r. ⌜ FormComparedAt form (now (area .entry)) start len (now (s .entry)) at (now (args .entry)) r ⌝ }
 {
     match form {
-        Form::Instantiated => substitution_comparison::compare_instantiated(
-            area,
-            start,
-            len,
-            s,
-            at,
-            s,
-            args,
-        ),
+        Form::Instantiated => {
+            substitution_comparison::compare_instantiated(area, start, s, at, s, args)
+        }
         Form::Written => {
             if type_tests::same_type(area, start, len, s, at) {
                 Comparison::Same

@@ -1,18 +1,12 @@
--- What a push of a type that stands in the unit promises, how it comes of a push of bytes, and the operand that a local is compared with.
-use mathlib.Core.Path.{_≡_}
+-- What a push of a type that stands in the unit promises, and how it comes of a push of bytes.
 use mathlib.Core.List.{List}
 use Prim.Native.Nat.{ℕ}
 use Rattle.definitions.specs.Machine.{push}
 use Rattle.definitions.specs.Places.{TypeAt, EndOfType}
-use Rattle.type_stack.specs.Held.{part, Stacked}
+use Rattle.type_stack.specs.Held.{part}
 use Rattle.type_stack.specs.Stepping.{StepsTo}
 use Rattle.type_stack.specs.Pushing.{PushesTo}
 use Rattle.type_stack.specs.declared.Stepped.{Stepped}
-use Rattle.signature_token.specs.Same.{Spans}
-use Rattle.type_stack.specs.Tops.{TopOf, topped}
-use Rattle.type_stack.specs.declared.Top.{Top}
-use Rattle.type_stack.specs.declared.Top.the-variants.{Entry}
-use Rattle.operand_steps.specs.Operands.{span}
 use Rattle.copied_pushes.specs.Standing.{push-declared}
 
 -- the type at `at` of s is pushed
@@ -22,8 +16,3 @@ pub record PushesType (s : List ℕ) (at : ℕ) (a : List ℕ) (w : ℕ) (b : Li
 pub pushes-type :
     {s : List ℕ} {at end : ℕ} → EndOfType s at end → {a b : List ℕ} {x : ℕ} {r : Stepped} → PushesTo (part s at end) a x b r → PushesType s at a x b r
 pushes-type e w = record { steps = λ p. push-declared p e w }
-
--- the operand that is compared
-module _ {a : List ℕ} {w : ℕ} {q : Top} {x l : ℕ} (k : Stacked a w) (p : TopOf a w q) (i : q ≡ Entry x l) where
-  pub top-span : Spans a x l
-  top-span = span (topped k p i .here)

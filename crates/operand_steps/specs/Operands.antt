@@ -63,6 +63,9 @@ module _ {a : List ℕ} {w : ℕ} {q : Top} {x l : ℕ} (k : Stacked a w) (p : T
   pub top-type : TypeAt a x
   top-type = operand (topped k p i .here)
 
+  pub top-span : Spans a x l
+  top-span = span (topped k p i .here)
+
   pub top-under : Stacked a x
   top-under = topped k p i .under
 

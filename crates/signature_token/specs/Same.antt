@@ -22,6 +22,10 @@ pub record Spans (s : List ℕ) (x l : ℕ) : Type 0 where
   pub stands : At s x (encode type)
   pub long : l ≡ length (encode type)
 
+-- such a type stands there
+abbrev pub spanned : {s : List ℕ} {x l : ℕ} → Spans s x l → TypeAt s x
+spanned p = record { type = p .type; stands = p .stands }
+
 -- r says whether the type of l bytes at x of a is the type at y of b
 abbrev pub SameAt : List ℕ → ℕ → ℕ → List ℕ → ℕ → Bool → Type 0
 SameAt a x l b y r = (p : Spans a x l) (q : TypeAt b y) → r ≡ same (p .type) (q .type)

@@ -3,7 +3,7 @@
 use mathlib.Core.Path.{_≡_, refl, sym, ap, _∙_}
 use mathlib.Core.List.{List}
 use mathlib.Core.Bool.{true, false, cond}
-use Prim.Native.Nat.{ℕ, _+_, _-_, _≤_}
+use Prim.Native.Nat.{ℕ, _+_}
 use native.Mathlib.Omega.{arith}
 use lib.ListN.{length, take, drop, getD}
 use Rattle.status.specs.declared.StatusCode.{StatusCode}
@@ -11,20 +11,19 @@ use Rattle.definitions.specs.Result.{Result, ok, err, _>>?_}
 use Rattle.definitions.specs.SignatureToken.{SignatureToken, Signature, encode, same}
 use Rattle.definitions.specs.Substitution.{instantiate}
 use Rattle.definitions.specs.Places.{TypeAt}
-use Rattle.theorems.specs.AtLaws.{at-part}
 use Rattle.theorems.specs.Bytes.{one-type}
 use Rattle.signature_token.specs.declared.Token.{Token}
 use Rattle.signature_token.specs.declared.Token.the-variants.{Leaf}
-use Rattle.signature_token.specs.Token.{TokenAt}
+use Rattle.signature_token.specs.Token.{TokenAt, at-some}
 use Rattle.signature_token.specs.TokenLaws.{leaf-byte}
 use Rattle.signature_token.specs.Ends.{type-room, leaf-end}
-use Rattle.signature_token.specs.Same.{Spans, span-within, same-yes, same-no}
+use Rattle.signature_token.specs.Same.{same-yes, same-no}
 use Rattle.substitution.specs.declared.Size.the-variants.{Bytes, Past}
 use Rattle.substitution_comparison.specs.declared.Comparison.{Comparison}
 use Rattle.substitution_comparison.specs.declared.Comparison.the-variants as comparison
-use Rattle.byte_parts.specs.Bytes.{Fits, byte-same, byte-differs, part-long}
+use Rattle.byte_parts.specs.Bytes.{Fits, byte-same, byte-differs}
 use Rattle.substitution.specs.Instantiate.{Arguments, filled, instantiated, leaf-filled}
-use Rattle.substitution.specs.Size.{SizeAt, past, size-filling, size-long, leaf-alone}
+use Rattle.substitution.specs.Size.{SizeAt, past, size-filling, leaf-alone}
 use Rattle.substitution_comparison.specs.Matching.{SameFilled}
 
 -- a type against what `instantiate` gave
@@ -32,9 +31,9 @@ unfoldable pub compared : SignatureToken → Result SignatureToken → Compariso
 compared t (ok u) = cond (same t u) comparison.Same comparison.Differs
 compared t (err status) = comparison.Past
 
--- r compares the type of len bytes at x of s with the type at `at` of ty, with the arguments in its parameters' places
-pub record ComparedAt (s : List ℕ) (x len : ℕ) (ty : List ℕ) (at : ℕ) (args places : List ℕ) (r : Comparison) : Type 0 where
-  pub is : (p : Spans s x len) (q : TypeAt ty at) (a : Arguments args places) → r ≡ compared (p .type) (instantiate (q .type) (a .subst))
+-- r compares the type at x of s with the type at `at` of ty, with the arguments in its parameters' places
+pub record ComparedAt (s : List ℕ) (x : ℕ) (ty : List ℕ) (at : ℕ) (args places : List ℕ) (r : Comparison) : Type 0 where
+  pub is : (p : TypeAt s x) (q : TypeAt ty at) (a : Arguments args places) → r ≡ compared (p .type) (instantiate (q .type) (a .subst))
 
 -- ── laws ──
 
@@ -54,33 +53,22 @@ compared-differs : (t u : SignatureToken) {r : Result SignatureToken} → r ≡ 
 unfolding compared
 compared-differs t u e k = rw (e, same-no t u k)
 
-module _ {s : List ℕ} {x len : ℕ} {ty : List ℕ} {at : ℕ} {args places : List ℕ} where
-  pub past-compared : SizeAt ty at args places Past → ComparedAt s x len ty at args places comparison.Past
+module _ {s : List ℕ} {x : ℕ} {ty : List ℕ} {at : ℕ} {args places : List ℕ} where
+  pub past-compared : SizeAt ty at args places Past → ComparedAt s x ty at args places comparison.Past
   past-compared z = record {
     is = λ p q a.
         not-instantiated (q .type) (p .type) (a .subst) (past 0 (at + length (encode (q .type))) (filled (q .type) (a .subst)) (z .is q a) .here);
   }
 
-  module _ {next n : ℕ} (l : len ≤ 65535) (z : SizeAt ty at args places (Bytes next n)) where
-    -- another length
-    pub length-compared : (n ≡ len → ⊥) → ComparedAt s x len ty at args places comparison.Differs
-    length-compared d = record {
-      is = λ p q a.
-          let u = instantiated (q .type) (a .subst) (size-filling z q a .is) in
-          compared-differs (p .type) (u .type) (u .here) (λ e.
-          d (omega (arith, size-long z q a, p .long, ap length (u .is), ap (λ (t : SignatureToken). length (encode t)) e)));
-    }
-
--- what is made has the type's bytes
-module _ {s : List ℕ} {x len : ℕ} {ty : List ℕ} {at : ℕ} {args places : List ℕ} where
-  pub same-compared : SameFilled s x len ty at args places true → ComparedAt s x len ty at args places comparison.Same
+  -- what is made has the type's bytes
+  pub same-compared : SameFilled s x ty at args places true → ComparedAt s x ty at args places comparison.Same
   same-compared m = record {
     is = λ p q a.
         let u = instantiated (q .type) (a .subst) (m .tells p q a) in
         compared-same (p .type) (u .type) (u .here) (one-type (p .type) (u .type) (p .stands) (rw (u .is) at (p .stands)));
   }
 
-  pub filled-differs : {next n : ℕ} → SizeAt ty at args places (Bytes next n) → SameFilled s x len ty at args places false → ComparedAt s x len ty at args places comparison.Differs
+  pub filled-differs : {next n : ℕ} → SizeAt ty at args places (Bytes next n) → SameFilled s x ty at args places false → ComparedAt s x ty at args places comparison.Differs
   filled-differs z m = record {
     is = λ p q a.
         let f = size-filling z q a in
@@ -88,35 +76,23 @@ module _ {s : List ℕ} {x len : ℕ} {ty : List ℕ} {at : ℕ} {args places : 
         compared-differs (p .type) (u .type) (u .here) (λ k. m .tells p q a (f .is ∙ ap ok (u .is ∙ ap encode (sym k))));
   }
 
--- a leaf and a type of one byte have their bytes
-leaf-within :
-    {s : List ℕ} {x len : ℕ} {ty : List ℕ} {at : ℕ} {r : Token} {b : ℕ} → TokenAt ty at r → r ≡ Leaf b → len ≡ 1 → Spans s x len → TypeAt ty at →
-    Fits ty at 1 x (length s)
-leaf-within t e l p q = record { there = omega (arith, leaf-end t e q, type-room q); free = omega (arith, span-within p) }
+-- a leaf is the type at x of s where its command stands there
+module _ {s : List ℕ} {x : ℕ} {ty : List ℕ} {at : ℕ} {r : Token} {b : ℕ} (t : TokenAt ty at r) (e : r ≡ Leaf b) (p₀ : TypeAt s x) (q₀ : TypeAt ty at) where
+  within : Fits ty at 1 x (length s)
+  within = record { there = omega (arith, leaf-end t e q₀, type-room q₀); free = omega (arith, at-some p₀) }
 
--- a leaf is the type of len bytes at x of s where that is one byte, the leaf's command
-module _ {s : List ℕ} {x len : ℕ} {ty : List ℕ} {at : ℕ} {args places : List ℕ} {r : Token} {b : ℕ} (t : TokenAt ty at r) (e : r ≡ Leaf b) where
-  -- another length
-  pub leaf-longer : len ≤ 65535 → (len ≡ 1 → ⊥) → ComparedAt s x len ty at args places comparison.Differs
-  leaf-longer l d = length-compared l (leaf-alone t e) (λ k. d (sym k))
+  pub leaf-same : {args places : List ℕ} → getD s x 0 ≡ b → ComparedAt s x ty at args places comparison.Same
+  leaf-same k = same-compared (record {
+    tells = λ p q a.
+        let h = byte-same {a = s} within (k ∙ sym (leaf-byte t q₀ e)) .tells in
+        let filling = leaf-filled t q (a .subst) e in
+        let u = instantiated (q .type) (a .subst) filling in
+        filling ∙ ap ok (u .is ∙ ap encode (sym (one-type (p .type) (u .type) (p .stands) (rw (u .is) at h))));
+  })
 
-  -- one byte against the command
-  module _ (l : len ≡ 1) (p₀ : Spans s x len) (q₀ : TypeAt ty at) where
-    pub leaf-same : getD s x 0 ≡ b → ComparedAt s x len ty at args places comparison.Same
-    leaf-same k = same-compared (record {
-      tells = λ p q a.
-          let f = leaf-within t e l p₀ q₀ in
-          let h = byte-same f (k ∙ sym (leaf-byte t q₀ e)) .tells in
-          let one = part-long ty at 1 (f .there) in
-          let long : length (take 1 (drop at ty)) ≡ length (encode (p .type)) = omega (arith, p .long) in
-          leaf-filled t q (a .subst) e
-          ∙ ap ok (sym (at-part (take 1 (drop at ty)) h) ∙ ap (λ (n : ℕ). take n (drop x s)) long ∙ at-part (encode (p .type)) (p .stands));
-    })
-
-    pub leaf-differs : (getD s x 0 ≡ b → ⊥) → ComparedAt s x len ty at args places comparison.Differs
-    leaf-differs d = filled-differs (leaf-alone t e) (record {
-      tells = λ p q a k.
-          let f = leaf-within t e l p₀ q₀ in
-          let same : take 1 (drop at ty) ≡ encode (p .type) = let i = sym (leaf-filled t q (a .subst) e) ∙ k in cc in
-          byte-differs {a = s} f (λ i. d (i ∙ leaf-byte t q₀ e)) .tells (rw same (p .stands));
-    })
+  pub leaf-differs : {args places : List ℕ} → (getD s x 0 ≡ b → ⊥) → ComparedAt s x ty at args places comparison.Differs
+  leaf-differs d = filled-differs (leaf-alone t e) (record {
+    tells = λ p q a k.
+        let same : take 1 (drop at ty) ≡ encode (p .type) = let i = sym (leaf-filled t q (a .subst) e) ∙ k in cc in
+        byte-differs {a = s} within (λ i. d (i ∙ leaf-byte t q₀ e)) .tells (rw same (p .stands));
+  })

@@ -5,24 +5,22 @@ use mathlib.Core.List.{List, [], _++_, append-nil}
 use mathlib.Core.Bool.{Bool, true, false}
 use Prim.Native.Nat.{ℕ, _+_, _-_, _≤_, _<_}
 use native.Mathlib.Omega.{arith}
-use lib.Dec.{eqb}
 use lib.ListN.{length, take, drop, getD, length-append}
-use borrow.Author.Tests.{eqb-true, eqb-false}
 use Rattle.definitions.specs.Result.{Result, ok, _>>?_}
 use Rattle.definitions.specs.SignatureToken.{SignatureTokens, Signature, encode}
 use Rattle.definitions.specs.Places.{At, TypeAt, TypesAt, EndOfType}
-use Rattle.theorems.specs.AtLaws.{at-part, at-front, at-back}
+use Rattle.theorems.specs.AtLaws.{at-part, at-room, at-front, at-back}
+use Rattle.theorems.specs.Bytes.{one-type as one-here}
 use Rattle.file_format.specs.declared.StructHandleIndex.{StructHandleIndex}
 use Rattle.signature_token.specs.declared.Wrapper.{Wrapper}
 use Rattle.signature_token.specs.declared.Token.{Token}
 use Rattle.signature_token.specs.declared.Token.the-variants.{Leaf, Wrapped, Struct, StructInstantiation, TypeParameter}
-use Rattle.signature_token.specs.Token.{TokenAt}
+use Rattle.signature_token.specs.Token.{TokenAt, at-some}
 use Rattle.signature_token.specs.TokenLaws.{wrapped-at, instantiation-at, none-is}
 use Rattle.signature_token.specs.Lists.{Left, type-left}
 use Rattle.signature_token.specs.Passing.{one-type}
-use Rattle.signature_token.specs.Same.{Spans}
 use Rattle.byte_parts.specs.Bytes.{Tells, SameBytes, at-append, part-long}
-use Rattle.substitution.specs.Instantiate.{Arguments, filled, filledAll, filled-one, filled-none, after, after-nil, after-after, after-ok, argument-is}
+use Rattle.substitution.specs.Instantiate.{Arguments, filled, filledAll, filled-one, filled-none, after, after-nil, after-after, after-ok, argument-is, instantiated}
 use Rattle.substitution.specs.Size.{argument-type}
 use Rattle.substitution.specs.Opening.{Opened, leaf-opened, struct-opened, argument-opened, argument-none, inner-opened, arguments-opened}
 use Rattle.substitution_comparison.specs.declared.Match.{Match}
@@ -30,46 +28,46 @@ use Rattle.substitution_comparison.specs.declared.Match.the-variants.{Up
 
 -- ── the words ──
 
--- bs stand at e and end at c, by `end`
-pub record Reaches (s : List ℕ) (e end : ℕ) (bs : List ℕ) (c : ℕ) : Type 0 where
+-- bs stand at e and end at c
+pub record Reaches (s : List ℕ) (e : ℕ) (bs : List ℕ) (c : ℕ) : Type 0 where
   pub reached : c ≡ e + length bs
-  pub within : c ≤ end
+  pub within : c ≤ length s
   pub stands : At s e bs
 
--- r says whether bs stand at e of s and end by `end`; it hands on x and j
-pub record PartMatched (s : List ℕ) (e end : ℕ) (bs : List ℕ) (x j : ℕ) (r : Match) : Type 0 where
-  pub yes : (c y k : ℕ) → r ≡ Upto c y k → Reaches s e end bs c × (y ≡ x) × (k ≡ j)
-  pub no : r ≡ No → At s e bs → e + length bs ≤ end → ⊥
+-- r says whether bs stand at e of s; it hands on x and j
+pub record PartMatched (s : List ℕ) (e : ℕ) (bs : List ℕ) (x j : ℕ) (r : Match) : Type 0 where
+  pub yes : (c y k : ℕ) → r ≡ Upto c y k → Reaches s e bs c × (y ≡ x) × (k ≡ j)
+  pub no : r ≡ No → At s e bs → ⊥
 
 -- the same of the argument that takes the place of parameter i, or there is none
-pub data ArgumentMatched (s : List ℕ) (e end : ℕ) (args places : List ℕ) (i x j : ℕ) : Match → Type 0 where
-  within : {r : Match} → i < length places → ((p : TypeAt args (getD places i 0)) → PartMatched s e end (encode (p .type)) x j r) → ArgumentMatched s e end args places i x j r
-  past : length places ≤ i → ArgumentMatched s e end args places i x j No
+pub data ArgumentMatched (s : List ℕ) (e : ℕ) (args places : List ℕ) (i x j : ℕ) : Match → Type 0 where
+  within : {r : Match} → i < length places → ((p : TypeAt args (getD places i 0)) → PartMatched s e (encode (p .type)) x j r) → ArgumentMatched s e args places i x j r
+  past : length places ≤ i → ArgumentMatched s e args places i x j No
 
 -- the k types at p give bytes that stand at e and end at c, and then what the j types at y give
-pub record Turned (s : List ℕ) (e end : ℕ) (ty : List ℕ) (p : ℕ) (ts : SignatureTokens) (subst : Signature) (c y j : ℕ) : Type 0 where
+pub record Turned (s : List ℕ) (e : ℕ) (ty : List ℕ) (p : ℕ) (ts : SignatureTokens) (subst : Signature) (c y j : ℕ) : Type 0 where
   pub bytes : List ℕ
   pub next : TypesAt ty y j
   pub is : filledAll ts subst ≡ after bytes (filledAll (next .types) subst)
-  pub reaches : Reaches s e end bytes c
+  pub reaches : Reaches s e bytes c
   pub onward : p < y
 
--- no bytes that they give stand at e and end by `end`
-abbrev Differing : List ℕ → ℕ → ℕ → SignatureTokens → Signature → Type 0
-Differing s e end ts subst = (cs : List ℕ) → filledAll ts subst ≡ ok cs → At s e cs → e + length cs ≤ end → ⊥
+-- no bytes that they give stand at e
+abbrev Differing : List ℕ → ℕ → SignatureTokens → Signature → Type 0
+Differing s e ts subst = (cs : List ℕ) → filledAll ts subst ≡ ok cs → At s e cs → ⊥
 
-pub record FirstMatched (s : List ℕ) (e end : ℕ) (ty : List ℕ) (p k : ℕ) (args places : List ℕ) (r : Match) : Type 0 where
-  pub yes : (c y j : ℕ) → r ≡ Upto c y j → (q : TypesAt ty p k) (a : Arguments args places) → Turned s e end ty p (q .types) (a .subst) c y j
-  pub no : r ≡ No → (q : TypesAt ty p k) (a : Arguments args places) → Differing s e end (q .types) (a .subst)
+pub record FirstMatched (s : List ℕ) (e : ℕ) (ty : List ℕ) (p k : ℕ) (args places : List ℕ) (r : Match) : Type 0 where
+  pub yes : (c y j : ℕ) → r ≡ Upto c y j → (q : TypesAt ty p k) (a : Arguments args places) → Turned s e ty p (q .types) (a .subst) c y j
+  pub no : r ≡ No → (q : TypesAt ty p k) (a : Arguments args places) → Differing s e (q .types) (a .subst)
 
--- r says whether the type of len bytes at x of s has the bytes of what is made of the type at `at` of ty
-pub record SameFilled (s : List ℕ) (x len : ℕ) (ty : List ℕ) (at : ℕ) (args places : List ℕ) (r : Bool) : Type 0 where
-  pub tells : (t : Spans s x len) (q : TypeAt ty at) (a : Arguments args places) → Tells r (filled (q .type) (a .subst) ≡ ok (encode (t .type)))
+-- r says whether the type at x of s has the bytes of what is made of the type at `at` of ty
+pub record SameFilled (s : List ℕ) (x : ℕ) (ty : List ℕ) (at : ℕ) (args places : List ℕ) (r : Bool) : Type 0 where
+  pub tells : (t : TypeAt s x) (q : TypeAt ty at) (a : Arguments args places) → Tells r (filled (q .type) (a .subst) ≡ ok (encode (t .type)))
 
 -- ── a part ──
 
-module _ {s : List ℕ} {e end : ℕ} (b : List ℕ) (y : ℕ) {n x j : ℕ} (l : n ≤ length b - y) where
-  pub part-yes : SameBytes s e b y n true → e ≤ end → n ≤ end - e → PartMatched s e end (take n (drop y b)) x j (Upto (e + n) x j)
+module _ {s : List ℕ} {e : ℕ} (b : List ℕ) (y : ℕ) {n x j : ℕ} (l : n ≤ length b - y) where
+  pub part-yes : SameBytes s e b y n true → e ≤ length s → n ≤ length s - e → PartMatched s e (take n (drop y b)) x j (Upto (e + n) x j)
   part-yes h o f = record {
     yes = λ c y′ k z.
         let i : e + n ≡ c = cc in
@@ -79,13 +77,13 @@ module _ {s : List ℕ} {e end : ℕ} (b : List ℕ) (y : ℕ) {n x j : ℕ} (l 
     no = λ z. let i : _≡_ {A = ℕ} 0 1 = cc in absurd (omega arith);
   }
 
-  pub part-no : SameBytes s e b y n false → PartMatched s e end (take n (drop y b)) x j No
-  part-no h = record { yes = λ c y′ k z. let i : _≡_ {A = ℕ} 0 1 = cc in absurd (omega arith); no = λ z stands room. h .tells stands }
+  pub part-no : SameBytes s e b y n false → PartMatched s e (take n (drop y b)) x j No
+  part-no h = record { yes = λ c y′ k z. let i : _≡_ {A = ℕ} 0 1 = cc in absurd (omega arith); no = λ z stands. h .tells stands }
 
-  pub part-over : end - e < n → PartMatched s e end (take n (drop y b)) x j No
+  pub part-over : length s - e < n → PartMatched s e (take n (drop y b)) x j No
   part-over f = record {
     yes = λ c y′ k z. let i : _≡_ {A = ℕ} 0 1 = cc in absurd (omega arith);
-    no = λ z stands room. omega (arith, part-long b y n l);
+    no = λ z stands. omega (arith, part-long b y n l, at-room stands);
   }
 
 -- ── an argument ──
@@ -95,8 +93,8 @@ module _ {args places : List ℕ} {i from : ℕ} (e : from ≡ getD places i 0) 
   argument-stands a = rw e (argument-type l a)
 
   pub argument-matched :
-      {s : List ℕ} {w end x j m : ℕ} {r : Match} → EndOfType args from m → PartMatched s w end (take (m - from) (drop from args)) x j r →
-      ArgumentMatched s w end args places i x j r
+      {s : List ℕ} {w x j m : ℕ} {r : Match} → EndOfType args from m → PartMatched s w (take (m - from) (drop from args)) x j r →
+      ArgumentMatched s w args places i x j r
   argument-matched {m = m} ends h = within l (λ p.
       let stands : At args from (encode (p .type)) = rw e (p .stands) in
       let long : m - from ≡ length (encode (p .type)) = omega (arith, ends (record { type = p .type; stands = stands })) in
@@ -110,10 +108,10 @@ all-left q = record { others = q .types; counted = q .counted; stands = q .stand
 
 -- by the bytes that it gives first
 first-matched :
-    {s : List ℕ} {e end : ℕ} {ty : List ℕ} {p k : ℕ} {args places : List ℕ} {x j : ℕ} {r : Match} (bs : (a : Arguments args places) → List ℕ) →
-    ((q : TypesAt ty p k) (a : Arguments args places) → Opened (all-left q) (a .subst) (bs a) x j) → ((a : Arguments args places) → PartMatched s e end (bs a) x j r) →
-    p < x → FirstMatched s e end ty p k args places r
-first-matched {e = e} {end} bs opens m onward = record {
+    {s : List ℕ} {e : ℕ} {ty : List ℕ} {p k : ℕ} {args places : List ℕ} {x j : ℕ} {r : Match} (bs : (a : Arguments args places) → List ℕ) →
+    ((q : TypesAt ty p k) (a : Arguments args places) → Opened (all-left q) (a .subst) (bs a) x j) → ((a : Arguments args places) → PartMatched s e (bs a) x j r) →
+    p < x → FirstMatched s e ty p k args places r
+first-matched bs opens m onward = record {
   yes = λ c y j′ z q a.
       let o = opens q a in
       let h = m a .yes c y j′ z in
@@ -124,30 +122,30 @@ first-matched {e = e} {end} bs opens m onward = record {
         reaches = h .0;
         onward = onward;
       });
-  no = λ z q a cs fill stands room.
+  no = λ z q a cs fill stands.
       let f = after-ok (bs a) _ (sym (opens q a .is) ∙ fill) in
-      m a .no z (at-front (bs a) (f .bytes) (rw (f .is) at stands)) (omega (arith, ap length (f .is), length-append (bs a) (f .bytes)));
+      m a .no z (at-front (bs a) (f .bytes) (rw (f .is) at stands));
 }
 
-module _ {s : List ℕ} {e end : ℕ} {ty : List ℕ} {p k : ℕ} {args places : List ℕ} (l : 0 < k) {token : Token} (w : TokenAt ty p token) where
-  pub leaf-first : {b : ℕ} {r : Match} → token ≡ Leaf b → PartMatched s e end (take 1 (drop p ty)) (p + 1) (k - 1) r → FirstMatched s e end ty p k args places r
+module _ {s : List ℕ} {e : ℕ} {ty : List ℕ} {p k : ℕ} {args places : List ℕ} (l : 0 < k) {token : Token} (w : TokenAt ty p token) where
+  pub leaf-first : {b : ℕ} {r : Match} → token ≡ Leaf b → PartMatched s e (take 1 (drop p ty)) (p + 1) (k - 1) r → FirstMatched s e ty p k args places r
   leaf-first z m = first-matched (λ a. take 1 (drop p ty)) (λ q a. leaf-opened l (all-left q) (a .subst) w z) (λ a. m) (omega arith)
 
-  pub struct-first : {h : StructHandleIndex} {r : Match} → token ≡ Struct h → PartMatched s e end (take 3 (drop p ty)) (p + 3) (k - 1) r → FirstMatched s e end ty p k args places r
+  pub struct-first : {h : StructHandleIndex} {r : Match} → token ≡ Struct h → PartMatched s e (take 3 (drop p ty)) (p + 3) (k - 1) r → FirstMatched s e ty p k args places r
   struct-first z m = first-matched (λ a. take 3 (drop p ty)) (λ q a. struct-opened l (all-left q) (a .subst) w z) (λ a. m) (omega arith)
 
-  pub wrapped-first : {v : Wrapper} {x : ℕ} {r : Match} → token ≡ Wrapped v x → TypesAt ty p k → PartMatched s e end (take 1 (drop p ty)) x k r → FirstMatched s e end ty p k args places r
+  pub wrapped-first : {v : Wrapper} {x : ℕ} {r : Match} → token ≡ Wrapped v x → TypesAt ty p k → PartMatched s e (take 1 (drop p ty)) x k r → FirstMatched s e ty p k args places r
   wrapped-first z q₀ m =
       first-matched (λ a. take 1 (drop p ty)) (λ q a. inner-opened l (all-left q) (a .subst) w z) (λ a. m)
       (omega (arith, wrapped-at w (type-left l (all-left q₀)) z .place))
 
-  pub instantiation-first : {h : StructHandleIndex} {m x : ℕ} {r : Match} → token ≡ StructInstantiation h m x → TypesAt ty p k → PartMatched s e end (take 4 (drop p ty)) x (k - 1 + m) r → FirstMatched s e end ty p k args places r
+  pub instantiation-first : {h : StructHandleIndex} {m x : ℕ} {r : Match} → token ≡ StructInstantiation h m x → TypesAt ty p k → PartMatched s e (take 4 (drop p ty)) x (k - 1 + m) r → FirstMatched s e ty p k args places r
   instantiation-first z q₀ m =
       first-matched (λ a. take 4 (drop p ty)) (λ q a. arguments-opened l (all-left q) (a .subst) w z) (λ a. m)
       (omega (arith, instantiation-at w (type-left l (all-left q₀)) z .place))
 
   -- a parameter gives its argument's bytes, or nothing
-  pub parameter-first : {i : ℕ} {r : Match} → token ≡ TypeParameter i → ArgumentMatched s e end args places i (p + 3) (k - 1) r → FirstMatched s e end ty p k args places r
+  pub parameter-first : {i : ℕ} {r : Match} → token ≡ TypeParameter i → ArgumentMatched s e args places i (p + 3) (k - 1) r → FirstMatched s e ty p k args places r
   parameter-first {i} z (within f m) =
       first-matched (λ a. encode (argument-is i f (a .standing) .type)) (λ q a. argument-opened l (all-left q) (a .subst) w z (argument-is i f (a .standing)))
       (λ a. let h = argument-is i f (a .standing) in m (record { type = h .type; stands = h .stands })) (omega arith)
@@ -168,14 +166,14 @@ pub record Agreeing (s : List ℕ) (x : ℕ) (whole : Result (List ℕ)) (ty : L
   pub stands : At s x done
   pub is : whole ≡ after done (filledAll (next .types) subst)
 
-pub record Agreed (s : List ℕ) (x len : ℕ) (ty : List ℕ) (at : ℕ) (args places : List ℕ) (e p k : ℕ) : Type 0 where
-  pub low : e ≤ x + len
+pub record Agreed (s : List ℕ) (x : ℕ) (ty : List ℕ) (at : ℕ) (args places : List ℕ) (e p k : ℕ) : Type 0 where
+  pub low : e ≤ length s
   pub is : (q : TypeAt ty at) (a : Arguments args places) → Agreeing s x (filled (q .type) (a .subst)) ty (a .subst) e p k
 
-pub agreed-start : {s : List ℕ} {x len : ℕ} {ty : List ℕ} {at : ℕ} {args places : List ℕ} → Agreed s x len ty at args places x at 1
+pub agreed-start : {s : List ℕ} {x : ℕ} {ty : List ℕ} {at : ℕ} {args places : List ℕ} → TypeAt s x → Agreed s x ty at args places x at 1
 unfolding one-type
-agreed-start {s} {x} = record {
-  low = omega arith;
+agreed-start {s} {x} t = record {
+  low = omega (arith, at-some t);
   is = λ q a. record {
     next = one-type q;
     done = [];
@@ -185,8 +183,8 @@ agreed-start {s} {x} = record {
   };
 }
 
-module _ {s : List ℕ} {x len : ℕ} {ty : List ℕ} {at : ℕ} {args places : List ℕ} {e p k : ℕ} (g : Agreed s x len ty at args places e p k) where
-  pub agreed-on : {c y j : ℕ} {r : Match} → FirstMatched s e (x + len) ty p k args places r → r ≡ Upto c y j → TypeAt ty at → Arguments args places → Agreed s x len ty at args places c y j
+module _ {s : List ℕ} {x : ℕ} {ty : List ℕ} {at : ℕ} {args places : List ℕ} {e p k : ℕ} (g : Agreed s x ty at args places e p k) where
+  pub agreed-on : {c y j : ℕ} {r : Match} → FirstMatched s e ty p k args places r → r ≡ Upto c y j → TypeAt ty at → Arguments args places → Agreed s x ty at args places c y j
   agreed-on {c} {y} {j} m z q₀ a₀ = record {
     low = m .yes c y j z (g .is q₀ a₀ .next) a₀ .reaches .within;
     is = λ q a.
@@ -201,43 +199,22 @@ module _ {s : List ℕ} {x len : ℕ} {ty : List ℕ} {at : ℕ} {args places : 
         };
   }
 
-  pub agreed-no : {r : Match} → FirstMatched s e (x + len) ty p k args places r → r ≡ No → SameFilled s x len ty at args places false
+  pub agreed-no : {r : Match} → FirstMatched s e ty p k args places r → r ≡ No → SameFilled s x ty at args places false
   agreed-no m z = record {
     tells = λ t q a fill.
         let h = g .is q a in
         let f = after-ok (h .done) (filledAll (h .next .types) (a .subst)) (sym (h .is) ∙ fill) in
-        m .no z (h .next) a (f .bytes) (f .here) (rw (h .reached) (at-back (h .done) (f .bytes) (rw (f .is) at (t .stands))))
-        (omega (arith, h .reached, t .long, ap length (f .is), length-append (h .done) (f .bytes)));
+        m .no z (h .next) a (f .bytes) (f .here) (rw (h .reached) (at-back (h .done) (f .bytes) (rw (f .is) at (t .stands))));
   }
 
-  module _ (none : k ≡ 0) where
-    -- all of it is matched
-    done-is : (q : TypeAt ty at) (a : Arguments args places) → filled (q .type) (a .subst) ≡ ok (g .is q a .done)
-    unfolding after _>>?_
-    done-is q a =
+  -- all of it is matched, and what is made of the type is the one type that stands there
+  pub agreed-done : k ≡ 0 → SameFilled s x ty at args places true
+  unfolding after _>>?_
+  agreed-done none = record {
+    tells = λ t q a.
         let h = g .is q a in
-        h .is ∙ rw (none-is (h .next .types) (h .next .counted ∙ none), filled-none (a .subst)) (ap ok (append-nil (h .done)))
-
-    agreed-same : e ≡ x + len → SameFilled s x len ty at args places true
-    agreed-same f = record {
-      tells = λ t q a.
-          let h = g .is q a in
-          let long : length (h .done) ≡ length (encode (t .type)) = omega (arith, h .reached, t .long) in
-          done-is q a
-          ∙ ap ok (sym (at-part (h .done) (h .stands)) ∙ ap (λ (n : ℕ). take n (drop x s)) long ∙ at-part (encode (t .type)) (t .stands));
-    }
-
-    agreed-shorter : (e ≡ x + len → ⊥) → SameFilled s x len ty at args places false
-    agreed-shorter d = record {
-      tells = λ t q a fill.
-          let h = g .is q a in
-          let same : h .done ≡ encode (t .type) = let i = sym (done-is q a) ∙ fill in cc in
-          d (omega (arith, h .reached, t .long, ap length same));
-    }
-
-    pub agreed-done : SameFilled s x len ty at args places (eqb e (x + len))
-    agreed-done = go (eqb e (x + len)) refl
-      where
-        go : (b : Bool) → eqb e (x + len) ≡ b → SameFilled s x len ty at args places b
-        go true f = agreed-same (eqb-true e (x + len) f)
-        go false f = agreed-shorter (eqb-false e (x + len) f)
+        let filling : filled (q .type) (a .subst) ≡ ok (h .done) =
+        h .is ∙ rw (none-is (h .next .types) (h .next .counted ∙ none), filled-none (a .subst)) (ap ok (append-nil (h .done))) in
+        let u = instantiated (q .type) (a .subst) filling in
+        filling ∙ ap ok (u .is ∙ ap encode (sym (one-here (t .type) (u .type) (t .stands) (rw (u .is) at (h .stands)))));
+  }

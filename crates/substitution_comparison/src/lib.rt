@@ -6,7 +6,6 @@ use substitution::Size;
 ghost use Prim.Native.Nat.{_-_, _≤_, _<_};
 ghost use lib.ListN.{length, take, drop};
 ghost use Rattle.definitions.specs.Places.{TypeAt, TypesAt};
-ghost use Rattle.signature_token.specs.Same.{Spans};
 ghost use Rattle.substitution.specs.Instantiate.{Arguments};
 ghost use Rattle.substitution_comparison.specs.Matching.{PartMatched, ArgumentMatched, FirstMatched, SameFilled};
 ghost use Rattle.substitution_comparison.specs.Compare.{ComparedAt};
@@ -28,22 +27,13 @@ enum Match {
     No,
 }
 
-// Whether the n bytes at y of b stand at e of s and end by `end`. `next` and `left` are handed on.
-fn match_part(
-    s: &[u8],
-    e: usize,
-    end: usize,
-    b: &[u8],
-    y: usize,
-    n: usize,
-    next: usize,
-    left: usize,
-) -> Match
-    requires { ⌜ (e ≤ end) × (end ≤ length (now s)) ⌝ }
+// Whether the n bytes at y of b stand at e of s. `next` and `left` are handed on.
+fn match_part(s: &[u8], e: usize, b: &[u8], y: usize, n: usize, next: usize, left: usize) -> Match
+    requires { ⌜ e ≤ length (now s) ⌝ }
     requires { ⌜ n ≤ length (now b) - y ⌝ }
-    ensures { λ r. ⌜ PartMatched (now (s .entry)) e end (take n (drop y (now (b .entry)))) next left r ⌝ }
+    ensures { λ r. ⌜ PartMatched (now (s .entry)) e (take n (drop y (now (b .entry)))) next left r ⌝ }
 {
-    if end - e < n {
+    if s.len() - e < n {
         return Match::No;
     }
     if byte_parts::same_bytes(s, e, b, y, n) {
@@ -60,23 +50,22 @@ fn match_part(
 fn match_argument(
     s: &[u8],
     e: usize,
-    end: usize,
     args: &[u8],
     places: &[u16],
     i: usize,
     next: usize,
     left: usize,
 ) -> Match
-    requires { ⌜ (e ≤ end) × (end ≤ length (now s)) ⌝ }
+    requires { ⌜ e ≤ length (now s) ⌝ }
     requires { ⌜ Arguments (now args) (now places) ⌝ }
-    ensures { λ r. ⌜ ArgumentMatched (now (s .entry)) e end (now (args .entry)) (now (places .entry)) i next left r ⌝ }
+    ensures { λ r. ⌜ ArgumentMatched (now (s .entry)) e (now (args .entry)) (now (places .entry)) i next left r ⌝ }
 {
     if places.len() <= i {
         return Match::No;
     }
     let from = widest(places[i]);
     let len = signature_token::end_of_type(args, from) - from;
-    match_part(s, e, end, args, from, len, next, left)
+    match_part(s, e, args, from, len, next, left)
 }
 
 // The same of the first of the types that are left, which stand at p of ty: its own bytes, or those of the argument. What is inside it is left in
@@ -84,51 +73,41 @@ fn match_argument(
 fn match_first(
     s: &[u8],
     e: usize,
-    end: usize,
     ty: &[u8],
     p: usize,
     left: usize,
     args: &[u8],
     places: &[u16],
 ) -> Match
-    requires { ⌜ (e ≤ end) × (end ≤ length (now s)) ⌝ }
+    requires { ⌜ e ≤ length (now s) ⌝ }
     requires { ⌜ (0 < left) × TypesAt (now ty) p left ⌝ }
     requires { ⌜ Arguments (now args) (now places) ⌝ }
-    ensures { λ r. ⌜ FirstMatched (now (s .entry)) e end (now (ty .entry)) p left (now (args .entry)) (now (places .entry)) r ⌝ }
+    ensures { λ r. ⌜ FirstMatched (now (s .entry)) e (now (ty .entry)) p left (now (args .entry)) (now (places .entry)) r ⌝ }
 {
     match signature_token::token_at(ty, p) {
-        Token::Leaf(_) => match_part(s, e, end, ty, p, 1, p + 1, left - 1),
-        Token::Wrapped(_, inner) => match_part(s, e, end, ty, p, 1, inner, left),
-        Token::Struct(_) => match_part(s, e, end, ty, p, 3, p + 3, left - 1),
+        Token::Leaf(_) => match_part(s, e, ty, p, 1, p + 1, left - 1),
+        Token::Wrapped(_, inner) => match_part(s, e, ty, p, 1, inner, left),
+        Token::Struct(_) => match_part(s, e, ty, p, 3, p + 3, left - 1),
         Token::StructInstantiation(_, k, first) => {
-            match_part(s, e, end, ty, p, 4, first, left - 1 + k)
+            match_part(s, e, ty, p, 4, first, left - 1 + k)
         }
-        Token::TypeParameter(i) => match_argument(s, e, end, args, places, i, p + 3, left - 1),
+        Token::TypeParameter(i) => match_argument(s, e, args, places, i, p + 3, left - 1),
     }
 }
 
-// Whether the len bytes at x of s are those of the type at `at` of ty, its parameters replaced. It is no such type where a parameter's number is past
-// the list.
-fn same_instantiated(
-    s: &[u8],
-    x: usize,
-    len: usize,
-    ty: &[u8],
-    at: usize,
-    args: &[u8],
-    places: &[u16],
-) -> bool
-    requires { ⌜ Spans (now s) x len ⌝ }
+// Whether the type at x of s is the type at `at` of ty, its parameters replaced. There is no such type where a parameter's number is past the list.
+// Where the first ends is not asked: bytes begin with one type at most.
+fn same_instantiated(s: &[u8], x: usize, ty: &[u8], at: usize, args: &[u8], places: &[u16]) -> bool
+    requires { ⌜ TypeAt (now s) x ⌝ }
     requires { ⌜ TypeAt (now ty) at ⌝ }
     requires { ⌜ Arguments (now args) (now places) ⌝ }
-    ensures { λ r. ⌜ SameFilled (now (s .entry)) x len (now (ty .entry)) at (now (args .entry)) (now (places .entry)) r ⌝ }
+    ensures { λ r. ⌜ SameFilled (now (s .entry)) x (now (ty .entry)) at (now (args .entry)) (now (places .entry)) r ⌝ }
 {
-    let end = x + len;
     let mut e = x;
     let mut p = at;
     let mut left = 1usize;
     while 0 < left {
-        match match_first(s, e, end, ty, p, left, args, places) {
+        match match_first(s, e, ty, p, left, args, places) {
             Match::No => {
                 return false;
             }
@@ -143,25 +122,24 @@ fn same_instantiated(
             }
         }
     }
-    e == end
+    true
 }
 
 // `compare_instantiated` by walks. Where the bytes differ, a second walk tells whether a parameter's number is past the list.
 fn compare_walked(
     s: &[u8],
     x: usize,
-    len: usize,
     ty: &[u8],
     at: usize,
     args: &[u8],
     places: &[u16],
 ) -> Comparison
-    requires { ⌜ Spans (now s) x len ⌝ }
+    requires { ⌜ TypeAt (now s) x ⌝ }
     requires { ⌜ TypeAt (now ty) at ⌝ }
     requires { ⌜ Arguments (now args) (now places) ⌝ }
-    ensures { λ r. ⌜ ComparedAt (now (s .entry)) x len (now (ty .entry)) at (now (args .entry)) (now (places .entry)) r ⌝ }
+    ensures { λ r. ⌜ ComparedAt (now (s .entry)) x (now (ty .entry)) at (now (args .entry)) (now (places .entry)) r ⌝ }
 {
-    if same_instantiated(s, x, len, ty, at, args, places) {
+    if same_instantiated(s, x, ty, at, args, places) {
         return Comparison::Same;
     }
     let size = substitution::instantiated_size(ty, at, args, places);
@@ -171,30 +149,25 @@ fn compare_walked(
     Comparison::Differs
 }
 
-// `instantiate` and `==`: whether the type of len bytes at x of s is the type at `at` of ty, its parameters replaced. A leaf has its own
-// way, since most types are leaves: it saves the calls into the walks.
+// `instantiate` and `==`: whether the type at x of s is the type at `at` of ty, its parameters replaced. A leaf has its own way, since most types
+// are leaves: it saves the calls into the walks.
 pub fn compare_instantiated(
     s: &[u8],
     x: usize,
-    len: usize,
     ty: &[u8],
     at: usize,
     args: &[u8],
     places: &[u16],
 ) -> Comparison
-    requires { ⌜ Spans (now s) x len ⌝ }
-    requires { ⌜ len ≤ 65535 ⌝ }
+    requires { ⌜ TypeAt (now s) x ⌝ }
     requires { ⌜ TypeAt (now ty) at ⌝ }
     requires { ⌜ Arguments (now args) (now places) ⌝ }
-    ensures { λ r. ⌜ ComparedAt (now (s .entry)) x len (now (ty .entry)) at (now (args .entry)) (now (places .entry)) r ⌝ }
+    ensures { λ r. ⌜ ComparedAt (now (s .entry)) x (now (ty .entry)) at (now (args .entry)) (now (places .entry)) r ⌝ }
 {
     let token = signature_token::token_at(ty, at);
     let Token::Leaf(command) = token else {
-        return compare_walked(s, x, len, ty, at, args, places);
+        return compare_walked(s, x, ty, at, args, places);
     };
-    if len != 1 {
-        return Comparison::Differs;
-    }
     if s[x] != command {
         return Comparison::Differs;
     }

@@ -23,7 +23,7 @@ use Rattle.type_tests.specs.declared.Referent.the-variants.{Reference, MutableR
 use Rattle.signature_token.specs.Token.{tokenOf, TokenAt}
 use Rattle.signature_token.specs.TokenLaws.{IsWrapped, wrapped-is}
 use Rattle.type_tests.specs.Kinds.{ReferentAt}
-use Rattle.signature_token.specs.Same.{Spans, SameAt, same-no, same-both}
+use Rattle.signature_token.specs.Same.{Spans, SameAt, same-no, same-both, spanned}
 use Rattle.type_stack.specs.Held.{Here}
 use Rattle.type_stack.specs.Stepping.{StepsTo, check-then, check-bad, check-last, check-last-bad}
 use Rattle.type_stack.specs.declared.Stepped.{Stepped}
@@ -124,10 +124,6 @@ outer-vector e = ap (λ (v : SignatureToken). elementOfOuter (outer v)) e
 
 same-vector : (t u : SignatureToken) → same (VectorOf t) (VectorOf u) ≡ same t u
 same-vector t u = same-both t u (VectorOf t) (VectorOf u) (ap VectorOf) (λ e. cc)
-
--- the type of so many bytes at a place, without their number
-abbrev spanned : {a : List ℕ} {x l : ℕ} → Spans a x l → TypeAt a x
-spanned p = record { type = p .type; stands = p .stands }
 
 module _ {a : List ℕ} {x l : ℕ} {r : ElementType} (k : VectorElementAt a x r) where
   -- its element, as it is compared

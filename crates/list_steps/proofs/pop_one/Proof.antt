@@ -3,7 +3,8 @@ use Rattle.definitions.specs.Machine.{popOne}
 use Rattle.substitution_comparison.specs.declared.Comparison.the-variants.{Same, Differs, Past}
 use Rattle.type_stack.specs.Stepping.{pop-none}
 use borrow.Author.Needs.{needs}
-use Rattle.list_steps.specs.Pops.{top-span, pop-compared}
+use Rattle.operand_steps.specs.Operands.{top-span}
+use Rattle.list_steps.specs.Pops.{pop-compared}
 use Rattle.list_steps.proofs.pop_one.Statement.{statement}
 use Rattle.list_steps.proofs.pop_one.Tie as tie
 

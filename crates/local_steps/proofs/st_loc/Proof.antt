@@ -2,8 +2,7 @@
 use Rattle.definitions.specs.TypeSafety as step
 use mathlib.Core.Path.{ap, sym, _∙_}
 use Rattle.type_stack.specs.Stepping.{pop-none, pop-then, check-last, check-last-bad}
-use Rattle.operand_steps.specs.Operands.{span}
-use Rattle.local_steps.specs.Pushes.{top-span}
+use Rattle.operand_steps.specs.Operands.{span, top-span}
 use Rattle.step_views.specs.Checks.{type-then, type-bad}
 use Rattle.locals.specs.Locals.{placeAlone, local-type, local-room}
 use borrow.Author.Needs.{needs}

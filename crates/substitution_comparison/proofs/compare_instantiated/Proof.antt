@@ -1,8 +1,8 @@
 -- A leaf is compared by its one byte, and any other type by the walks.
 use native.Mathlib.Omega.{arith}
 use borrow.Author.Needs.{needs}
-use Rattle.signature_token.specs.Same.{span-within}
-use Rattle.substitution_comparison.specs.Compare.{leaf-longer, leaf-same, leaf-differs}
+use Rattle.signature_token.specs.Token.{at-some}
+use Rattle.substitution_comparison.specs.Compare.{leaf-same, leaf-differs}
 use Rattle.substitution_comparison.proofs.compare_instantiated.Statement.{statement}
 use Rattle.substitution_comparison.proofs.compare_instantiated.Tie as tie
 
@@ -18,15 +18,10 @@ compare-instantiated-spec =
     (λ c. search needs)
     (λ c κs. search needs)
     (λ c. search needs)
-    (λ c. let token = c .before .before in
-    let start = entry token in
-    leaf-longer (token .before .before .token-at .ensures) (token .token .given .1) (start .pre .1 .0) (c .if1 .taken))
-    (λ c. omega (arith, span-within (c .before .before .before .before .before .before .before .before .before .before .pre .0)))
-    (λ c. let token = c .before .before .before .before in
-    let start = entry token in
-    let q = start .pre in
-    leaf-differs (token .before .before .token-at .ensures) (token .token .given .1) (c .before .before .if1 .left) (q .0) (q .1 .1 .0) (c .if2 .taken))
-    (λ c. let token = c .before .before .before .before in
-    let start = entry token in
-    let q = start .pre in
-    leaf-same (token .before .before .token-at .ensures) (token .token .given .1) (c .before .before .if1 .left) (q .0) (q .1 .1 .0) (c .if2 .left)))
+    (λ c. omega (arith, at-some (entry (c .before .before) .pre .0)))
+    (λ c. let token = c .before .before .before in
+    let q = entry token .pre in
+    leaf-differs (token .before .before .token-at .ensures) (token .token .given .1) (q .0) (q .1 .0) (c .if1 .taken))
+    (λ c. let token = c .before .before .before in
+    let q = entry token .pre in
+    leaf-same (token .before .before .token-at .ensures) (token .token .given .1) (q .0) (q .1 .0) (c .if1 .left)))

@@ -1,4 +1,4 @@
--- The bytes differ where they would end too late; else the answer is that of the bytes.
+-- The bytes differ where there are too few; else the answer is that of the bytes.
 use native.Mathlib.Omega.{arith}
 use denote.Ref.{now}
 use Rattle.substitution_comparison.specs.Matching.{part-yes, part-no, part-over}
@@ -16,6 +16,6 @@ match-part-spec =
     (λ c κs. search needs)
     (λ c. search needs)
     (λ c. let start = c .before .before .before .before .before in
-    part-yes (now (start .args .b)) (start .args .y) (start .pre .1) (rw (c .if2 .taken) at (c .before .same-bytes .ensures)) (start .pre .0 .0) (omega arith))
+    part-yes (now (start .args .b)) (start .args .y) (start .pre .1) (rw (c .if2 .taken) at (c .before .same-bytes .ensures)) (start .pre .0) (omega arith))
     (λ c. let start = c .before .before .before .before .before in
     part-no (now (start .args .b)) (start .args .y) (start .pre .1) (rw (c .if2 .left) at (c .before .same-bytes .ensures))))

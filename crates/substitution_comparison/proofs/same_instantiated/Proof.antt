@@ -4,17 +4,16 @@ use native.Mathlib.Omega.{arith}
 use lib.ListN.{length}
 use Rattle.signature_token.specs.Token.{at-some}
 use Rattle.signature_token.specs.Lists.{type-left}
-use Rattle.signature_token.specs.Same.{span-within}
 use Rattle.substitution_comparison.specs.Matching.{Agreed, all-left, agreed-start, agreed-on, agreed-no, agreed-done}
 use borrow.Author.Needs.{needs}
 use Rattle.substitution_comparison.proofs.same_instantiated.Statement.{statement}
 use Rattle.substitution_comparison.proofs.same_instantiated.Tie as tie
 
 abbrev Inv-loop : tie.InvT-loop
-Inv-loop s x len ty at args places end e₀ p₀ left₀ e p left = Agreed s x len ty at args places e p left
+Inv-loop s x ty at args places e₀ p₀ left₀ e p left = Agreed s x ty at args places e p left
 
 abbrev μ-loop : tie.MeasureT-loop
-μ-loop s x len ty at args places end e₀ p₀ left₀ e p left = length ty - p
+μ-loop s x ty at args places e₀ p₀ left₀ e p left = length ty - p
 
 -- back from `loop` to the function's entry
 abbrev entry : tie.At-loop Inv-loop μ-loop → tie.Start Inv-loop μ-loop
@@ -26,12 +25,11 @@ same-instantiated-spec =
     (tie.spec
     Inv-loop
     μ-loop
-    (λ c. omega (arith, span-within (c .before .before .before .before .pre .0)))
-    (λ c. agreed-start)
+    (λ c. agreed-start (c .before .before .before .before .pre .0))
     (λ c κs. let turn = c .before in
     let q = entry turn .pre in
     let g = turn .loop .inv in
-    ((g .low, span-within (q .0)), ((c .loop-test .taken, g .is (q .1 .0) (q .1 .1) .next), q .1 .1)))
+    (g .low, ((c .loop-test .taken, g .is (q .1 .0) (q .1 .1) .next), q .1 .1)))
     (λ c. search needs)
     (λ c. let first = c .before .before in
     agreed-no (first .before .before .loop .inv) (first .match-first .ensures) (c .enum-told .given .1))
