@@ -1,8 +1,8 @@
 -- A type by the shape of its command: one law for each way that reading it goes.
 use mathlib.Core.Path.{_≡_, refl, sym, ap, _∙_}
-use mathlib.Core.Bool.{true, false}
 use mathlib.Core.List.{List, [], _∷_}
 use Prim.Native.Nat.{ℕ, zero, suc, _+_, _-_, _≤_, _<_}
+use native.Mathlib.Nat.{add-zero}
 use native.Mathlib.Omega.{arith}
 use lib.ListN.{length, getD, replicate, getD-replicate, List·getD-eq-default, List·getD-append, List·getD-map}
 use Rattle.status.specs.declared.StatusCode.the-variants.{SHORT, COMMAND, DEPTH}
@@ -11,14 +11,16 @@ use Rattle.definitions.specs.CompiledUnit.{Head}
 use Rattle.definitions.specs.Reading.{Reader, next, _>>=_, _>>_, give, fail, here, byte, skip, many}
 use Rattle.definitions.specs.Commands.{TypeCommand, leaf, over, instantiation, commandsOf, typeCommands}
 use Rattle.definitions.specs.Reader.{restOfType, typeWithin}
+use Rattle.type_commands.specs.Plain.{opened, widthBy, aroundBy, plainWidth, wrapping, around-most}
 use Rattle.record_reader.specs.declared.ReadTo.{ReadTo}
 use Rattle.record_reader.specs.declared.ReadTo.the-variants.{Next, Refused}
 use Rattle.record_reader.specs.declared.TypeShape.{TypeShape}
 use Rattle.record_reader.specs.declared.TypeShape.the-variants.{Leaf, Over, Index, Instantiation, Unknown}
 use Rattle.record_reader.specs.ReadTo.{readTo}
 use Rattle.record_reader.specs.Alike.{byte-next, byte-short, alike-map, alike-then, alike-after, map-alike, u16-takes}
-use Rattle.record_reader.specs.Bodies.{shapeOf, typeShape, counted, LeafPassed}
+use Rattle.record_reader.specs.Bodies.{shapeOf, typeShape, counted}
 use Rattle.record_reader.specs.BodyLaws.{same-types}
+use Rattle.record_reader.proofs.Walk.{skip-within}
 
 -- where the rest of a type ends, by its shape; the command stood at p
 abbrev pub restTo : Reader SignatureToken → ℕ → TypeShape → List ℕ → ℕ → ReadTo
@@ -60,13 +62,45 @@ module _ (head : Head) (s : List ℕ) (at : ℕ) where
         rw (z, e, byte-next s at within, same-types head (getD s at 0))
         (sym (rest-shaped (typeWithin (commandsOf head) levels) at (getD typeCommands (getD s at 0) TypeCommand.unknown) s (at + 1)))
 
--- ── a leaf that is passed by one byte ──
+-- ── a plain type, or one that a command stands around ──
 
-pub not-passed : {s : List ℕ} {at levels : ℕ} → LeafPassed s at levels false
-not-passed = record { within = λ e. let z : _≡_ {A = ℕ} 0 1 = cc in absurd (omega arith); passes = λ e. let z : _≡_ {A = ℕ} 0 1 = cc in absurd (omega arith) }
+plain-rest :
+    (type : Reader SignatureToken) (s : List ℕ) (at : ℕ) (command : TypeCommand) → at + 2 < length s → 0 < widthBy command →
+    Next (at + widthBy command) ≡ restTo type at (shapeOf command) s (at + 1)
+plain-rest type s at (leaf t) h k = refl
+plain-rest type s at (over f) h k = absurd (omega arith)
+plain-rest type s at (TypeCommand.index f) h k =
+    let z : at + 3 ≡ at + 1 + 2 = omega arith in rw z (skip-within s (at + 1) 2 (omega arith))
+plain-rest type s at instantiation h k = absurd (omega arith)
+plain-rest type s at TypeCommand.unknown h k = absurd (omega arith)
 
-pub leaf-passed : {s : List ℕ} {at levels : ℕ} → at < length s → (levels ≡ 0 → ⊥) → Leaf ≡ typeShape (getD s at 0) → LeafPassed s at levels true
-leaf-passed {s} {at} {levels} h f e = record { within = λ _. h; passes = λ _ head. type-shaped head s at h levels f e }
+around-rest :
+    (type : Reader SignatureToken) (s : List ℕ) (at : ℕ) (command : TypeCommand) → aroundBy command ≡ 1 →
+    readTo (type s (at + 1)) ≡ restTo type at (shapeOf command) s (at + 1)
+around-rest type s at (leaf t) k = absurd (omega arith)
+around-rest type s at (over f) k = refl
+around-rest type s at (TypeCommand.index f) k = absurd (omega arith)
+around-rest type s at instantiation k = absurd (omega arith)
+around-rest type s at TypeCommand.unknown k = absurd (omega arith)
+
+module _ (head : Head) (s : List ℕ) where
+  plain-here :
+      (at levels width : ℕ) → at + 2 < length s → 0 < levels → width ≡ plainWidth (getD s at 0) → 0 < width →
+      Next (at + width) ≡ readTo (typeWithin (commandsOf head) levels s at)
+  plain-here at levels width h l e k =
+      rw e (plain-rest (typeWithin (commandsOf head) (levels - 1)) s at (opened (getD s at 0)) h (omega arith))
+      ∙ type-shaped head s at (omega arith) levels (λ z. omega arith) refl
+
+  pub plain-read :
+      (at levels w width : ℕ) → at + 4 < length s → 1 < levels → w ≡ wrapping (getD s at 0) → width ≡ plainWidth (getD s (at + w) 0) → 0 < width →
+      Next (at + w + width) ≡ readTo (typeWithin (commandsOf head) levels s at)
+  plain-read at levels zero width h l e f k =
+      rw (add-zero at) (plain-here at levels width (omega arith) (omega arith) (rw (add-zero at) at f) k)
+  plain-read at levels (suc zero) width h l e f k =
+      plain-here (at + 1) (levels - 1) width (omega arith) (omega arith) f k
+      ∙ around-rest (typeWithin (commandsOf head) (levels - 1)) s at (opened (getD s at 0)) (sym e)
+      ∙ type-shaped head s at (omega arith) levels (λ z. omega arith) refl
+  plain-read at levels (suc (suc w)) width h l e f k = absurd (omega (arith, around-most (opened (getD s at 0))))
 
 -- ── the shape of a command ──
 

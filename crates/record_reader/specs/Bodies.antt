@@ -2,9 +2,9 @@
 use mathlib.Core.Path.{_≡_}
 use mathlib.Core.Bool.{Bool, true, false}
 use mathlib.Core.List.{List}
-use Prim.Native.Nat.{ℕ, _+_, _<_}
+use Prim.Native.Nat.{ℕ, _<_}
 use lib.Dec.{eqb}
-use lib.ListN.{length, getD}
+use lib.ListN.{getD}
 use Rattle.definitions.specs.Reading.{Reader, _>>=_, byte, many}
 use Rattle.definitions.specs.Commands.{TypeCommand, leaf, over, instantiation, typeCommands, Commands, commandsOf}
 use Rattle.definitions.specs.CompiledUnit.{Head}
@@ -47,7 +47,6 @@ shapeOf TypeCommand.unknown = Unknown
 abbrev pub typeShape : ℕ → TypeShape
 typeShape c = shapeOf (getD typeCommands c TypeCommand.unknown)
 
--- where r is true, reading a type at `at` goes on after one byte
-pub record LeafPassed (s : List ℕ) (at levels : ℕ) (r : Bool) : Type 0 where
-  pub within : r ≡ true → at < length s
-  pub passes : r ≡ true → (head : Head) → Next (at + 1) ≡ readTo (typeWithin (commandsOf head) levels s at)
+-- where r is not 0, a type at `at` ends at r
+abbrev pub PlainEnd : List ℕ → ℕ → ℕ → ℕ → Type 0
+PlainEnd s at levels r = 0 < r → (head : Head) → Next r ≡ readTo (typeWithin (commandsOf head) levels s at)

@@ -3,6 +3,8 @@
 // pass needs of it is read again at its place.
 use numbers::number_at;
 use status::StatusCode;
+use type_commands::plain_width;
+use type_commands::wraps;
 ghost use mathlib.Core.Path.{_≡_};
 ghost use mathlib.Core.List.{List};
 ghost use lib.ListN.{length};
@@ -12,7 +14,7 @@ ghost use Rattle.definitions.specs.Commands.{commandsOf};
 ghost use Rattle.definitions.specs.Reading.{skip};
 ghost use Rattle.definitions.specs.Reader.{typeWithin, types, byteUpTo, structHandle, structDefinition, signatureOf, functionView};
 ghost use Rattle.record_reader.specs.ReadTo.{readTo};
-ghost use Rattle.record_reader.specs.Bodies.{counted, pair, bodyOf, typeShape, LeafPassed};
+ghost use Rattle.record_reader.specs.Bodies.{counted, pair, bodyOf, typeShape, PlainEnd};
 
 // Where reading goes on, or why it ends and the byte that this is about.
 pub enum ReadTo {
@@ -75,31 +77,36 @@ fn type_shape(command: u8) -> TypeShape
     TypeShape::Unknown
 }
 
-// Whether a leaf stands at `at`, where one is allowed.
-fn is_leaf_at(s: &[u8], at: usize, levels: u8) -> bool
-    ensures { λ r. ⌜ LeafPassed (now (s .entry)) at levels r ⌝ }
+// Where the type at `at` ends, if it is plain or one command stands around a plain one; 0 where that is not found out here: the unit may end
+// inside such a type, or too few levels be allowed. Which of these types it is decides nothing but what is added.
+fn plain_end(s: &[u8], at: usize, levels: u8) -> usize
+    ensures { λ r. ⌜ PlainEnd (now (s .entry)) at levels r ⌝ }
 {
-    if levels == 0 {
-        return false;
+    if s.len() < 5 {
+        return 0;
     }
-    if s.len() <= at {
-        return false;
+    if s.len() - 4 <= at {
+        return 0;
     }
-    match type_shape(s[at]) {
-        TypeShape::Leaf => true,
-        TypeShape::Over => false,
-        TypeShape::Index => false,
-        TypeShape::Instantiation => false,
-        TypeShape::Unknown => false,
+    if levels < 2 {
+        return 0;
     }
+    let p = at + wraps(s[at]);
+    let width = plain_width(s[p]);
+    if width == 0 {
+        return 0;
+    }
+    p + width
 }
 
-// A type of at most so many levels. Most types are leaves, which are passed here; all others are left to a function that calls this one again.
+// A type of at most so many levels. Most types are plain or wrapped once, and pass here; the others are left to a function that calls this one
+// again.
 fn read_type(s: &[u8], at: usize, levels: u8) -> ReadTo
     ensures { λ r. ⌜ ((head : Head) → r ≡ readTo (typeWithin (commandsOf head) levels (now (s .entry)) at)) ⌝ }
 {
-    if is_leaf_at(s, at, levels) {
-        return ReadTo::Next(at + 1);
+    let end = plain_end(s, at, levels);
+    if 0 < end {
+        return ReadTo::Next(end);
     }
     read_any_type(s, at, levels)
 }

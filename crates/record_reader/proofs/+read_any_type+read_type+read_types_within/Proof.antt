@@ -1,5 +1,5 @@
 -- A type and a list of types, which call each other: with each command of a type one level less is allowed. The measure is three times the
--- levels, one more for a type that may be a leaf, and one more again for a list, which goes down to its types at the same level.
+-- levels, one more for a type that may be plain, and one more again for a list, which goes down to its types at the same level.
 use mathlib.Core.Path.{_≡_, refl, sym, _∙_}
 use Prim.Native.Nat.{ℕ, _+_, _-_, _*_, _≤_, _<_}
 use native.Mathlib.Omega.{arith}
@@ -18,7 +18,7 @@ use borrow.Fn.PlainCycle.{Measures, is, falls, and}
 use Rattle.record_reader.proofs.read_any_type.Reads as read-any-type
 use Rattle.record_reader.proofs.read_any_type.Kinds as read-any-type-kinds
 use Rattle.record_reader.proofs.+read_any_type+read_type+read_types_within.Lts-read_any_type as read-any-type-lts
-use Rattle.record_reader.proofs.is_leaf_at.Reads as is-leaf-at-reads
+use Rattle.record_reader.proofs.plain_end.Reads as plain-end-reads
 use Rattle.record_reader.proofs.read_type.Reads as read-type
 use Rattle.record_reader.proofs.read_type.Kinds as read-type-kinds
 use Rattle.record_reader.proofs.+read_any_type+read_type+read_types_within.Lts-read_type as read-type-lts
@@ -156,16 +156,15 @@ pub +read-any-type+read-type+read-types-within-spec : {M : Type 1} → statement
     (λ c head. shaped t (c .before .before) head (c .enum-told6 .given .1))
     (λ c head. type-short head _ _ _ (c .loop-test .left) ∙ sym (c .before .loop .inv .1 head)))
     (λ t. read-type-lts.spec (
-      is-leaf-at-reads.Asked,
-      is-leaf-at-reads.Learnt,
+      plain-end-reads.Asked,
+      plain-end-reads.Learnt,
       read-any-type-below t,
       read-any-type.Post,
     )
     (read-type-at t)
     read-type.Post
     (λ c κs. search needs)
-    (λ c. omega (arith, c .before .is-leaf-at .ensures .within (c .if1 .taken)))
-    (λ c head. c .before .is-leaf-at .ensures .passes (c .if1 .taken) head)
+    (λ c head. c .before .plain-end .ensures (c .if1 .taken) head)
     (λ c κs. search needs)
     (λ c. search needs))
     λ t. read-types-within-lts.spec
