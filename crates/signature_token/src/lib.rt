@@ -1,12 +1,16 @@
-// A type taken apart at its first command, and where types end. `token_at` is the one place in the passes that tells what a type's command
-// opens; the reader, which meets bytes that open none, has its own.
+// A type taken apart at its first command, and where types end. `token_at` is the one place in the passes that takes a type apart; where the
+// commands alone tell its end, nothing is taken apart, and `type_commands` counts its bytes. The reader, which meets bytes that open no type,
+// has its own.
 use file_format::StructHandleIndex;
 use numbers::u16_at;
 use numbers::wide;
 use numbers::widest;
+use type_commands::plain_width;
+use type_commands::wraps;
 ghost use mathlib.Core.Path.{_≡_};
 ghost use Rattle.definitions.specs.Places.{TypeAt, TypesAt, EndOfType, EndOfTypes};
 ghost use Rattle.signature_token.specs.Token.{shapeOf, TokenAt};
+ghost use Rattle.signature_token.specs.Plain.{PlainEnd};
 
 // Commands of types, as document 01's table of them has them: those that steps name.
 pub const BOOL: u8 = 0x01;
@@ -101,11 +105,29 @@ pub fn token_at(s: &[u8], at: usize) -> Token
     }
 }
 
-// The end of the type at `at`.
+// The end of the type at `at`, if it is plain or one command stands around a plain one, and otherwise 0. Which of these types it is decides
+// nothing but what is added.
+fn plain_end(s: &[u8], at: usize) -> usize
+    requires { ⌜ TypeAt (now s) at ⌝ }
+    ensures { λ r. ⌜ PlainEnd (now (s .entry)) at r ⌝ }
+{
+    let p = at + wraps(s[at]);
+    let width = plain_width(s[p]);
+    if width == 0 {
+        return 0;
+    }
+    p + width
+}
+
+// The end of the type at `at`. Most types are plain or wrapped once: only the others are walked.
 pub fn end_of_type(s: &[u8], at: usize) -> usize
     requires { ⌜ TypeAt (now s) at ⌝ }
     ensures { λ r. ⌜ EndOfType (now (s .entry)) at r ⌝ }
 {
+    let end = plain_end(s, at);
+    if 0 < end {
+        return end;
+    }
     end_of_types(s, at, 1)
 }
 
