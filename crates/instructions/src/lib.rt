@@ -1,4 +1,4 @@
-// `verify_instr` of type_safety.rs: one decision over the opcode picks the step. An instruction that names a table takes its operand as an
+// `verify_instr` of type_safety.rs: one decision over the opcode's arm picks the step. An instruction that names a table takes its operand as an
 // index of that table here; the effects that are looked up (crate instruction_effect) do so too.
 use file_format::ConstantPoolIndex;
 use file_format::FieldHandleIndex;
@@ -9,6 +9,12 @@ use file_format::LocalIndex;
 use file_format::SignatureIndex;
 use file_format::StructDefInstantiationIndex;
 use file_format::StructDefinitionIndex;
+use instruction_arms::Arm;
+use local_steps::copy_loc;
+use local_steps::ld_const;
+use local_steps::move_loc;
+use local_steps::st_loc;
+use operand_steps::pop_leaf;
 use record_views::Instruction;
 use record_views::TypeList;
 use signature_token::BOOL;
@@ -280,35 +286,35 @@ pub fn verify_instr(
     let it = code_views::instruction_at(s, index, view, i);
     let opcode = it.opcode;
     let local = LocalIndex(it.local);
-    match opcode {
-        0 => drop_steps::pop_step(area, weight, s, index, view), // Pop
-        1 => list_steps::ret_step(area, weight, s, index, view), // Ret
-        2..=3 => operand_steps::pop_leaf(area, weight, BOOL, StatusCode::BR_TYPE_MISMATCH_ERROR), // BrTrue, BrFalse
-        4 => Stepped::Next(weight), // Branch
-        5..=7 => type_pushes::push_leaf(area, weight, integer_type(opcode - 5)), // LdU8, LdU64, LdU128
-        8..=10 => operand_steps::cast(area, weight, integer_type(opcode - 8)), // CastU8, CastU64, CastU128
-        11 => { local_steps::ld_const(area, weight, s, index, view, ConstantPoolIndex(it.operand)) } // LdConst
-        12..=13 => type_pushes::push_leaf(area, weight, BOOL), // LdTrue, LdFalse
-        14 => local_steps::copy_loc(area, weight, s, index, view, parameters, locals, local), // CopyLoc
-        15 => local_steps::move_loc(area, weight, s, index, view, parameters, locals, local), // MoveLoc
-        16 => local_steps::st_loc(area, weight, s, index, view, parameters, locals, local), // StLoc
-        17..=18 => call_instr(area, weight, s, index, view, it), // Call, CallGeneric
-        19..=22 => struct_instr(area, weight, s, index, view, it), // Pack to UnpackGeneric
-        23 => reference_steps::read_ref(area, weight, s, index, view), // ReadRef
-        24 => reference_steps::write_ref(area, weight, s, index, view), // WriteRef
-        25 => operand_steps::freeze_ref(area, weight), // FreezeRef
-        26..=27 => borrow_loc_instr(area, weight, s, index, view, parameters, locals, it), // MutBorrowLoc, ImmBorrowLoc
-        28..=31 => field_instr(area, weight, s, index, view, it), // MutBorrowField to ImmBorrowFieldGeneric
-        32..=35 => global_instr(area, weight, s, index, view, it), // MutBorrowGlobal to ImmBorrowGlobalGeneric
-        36..=43 => pair_steps::arithmetic(area, weight), // Add to Xor
-        44..=45 => pair_steps::logical(area, weight), // Or, And
-        46 => operand_steps::negation(area, weight), // Not
-        47..=48 => drop_steps::equality(area, weight, s, index, view), // Eq, Neq
-        49..=52 => pair_steps::comparison(area, weight), // Lt, Gt, Le, Ge
-        53 => operand_steps::pop_leaf(area, weight, U64, StatusCode::ABORT_TYPE_MISMATCH_ERROR), // Abort
-        54 => Stepped::Next(weight), // Nop
-        55..=60 => resource_instr(area, weight, s, index, view, it), // Exists to MoveToGeneric
-        61..=62 => pair_steps::shift(area, weight), // Shl, Shr
-        _ => vector_instr(area, weight, s, index, view, it), // VecPack to VecSwap
+    match instruction_arms::arm_of(opcode) {
+        Arm::Pop => drop_steps::pop_step(area, weight, s, index, view),
+        Arm::Ret => list_steps::ret_step(area, weight, s, index, view),
+        Arm::BrBool => pop_leaf(area, weight, BOOL, StatusCode::BR_TYPE_MISMATCH_ERROR),
+        Arm::Branch => Stepped::Next(weight),
+        Arm::LdInteger => type_pushes::push_leaf(area, weight, integer_type(opcode - 5)),
+        Arm::Cast => operand_steps::cast(area, weight, integer_type(opcode - 8)),
+        Arm::LdConst => ld_const(area, weight, s, index, view, ConstantPoolIndex(it.operand)),
+        Arm::LdBool => type_pushes::push_leaf(area, weight, BOOL),
+        Arm::CopyLoc => copy_loc(area, weight, s, index, view, parameters, locals, local),
+        Arm::MoveLoc => move_loc(area, weight, s, index, view, parameters, locals, local),
+        Arm::StLoc => st_loc(area, weight, s, index, view, parameters, locals, local),
+        Arm::Call => call_instr(area, weight, s, index, view, it),
+        Arm::Struct => struct_instr(area, weight, s, index, view, it),
+        Arm::ReadRef => reference_steps::read_ref(area, weight, s, index, view),
+        Arm::WriteRef => reference_steps::write_ref(area, weight, s, index, view),
+        Arm::FreezeRef => operand_steps::freeze_ref(area, weight),
+        Arm::BorrowLoc => borrow_loc_instr(area, weight, s, index, view, parameters, locals, it),
+        Arm::BorrowField => field_instr(area, weight, s, index, view, it),
+        Arm::BorrowGlobal => global_instr(area, weight, s, index, view, it),
+        Arm::Arithmetic => pair_steps::arithmetic(area, weight),
+        Arm::Logical => pair_steps::logical(area, weight),
+        Arm::Not => operand_steps::negation(area, weight),
+        Arm::Equality => drop_steps::equality(area, weight, s, index, view),
+        Arm::Comparison => pair_steps::comparison(area, weight),
+        Arm::Abort => pop_leaf(area, weight, U64, StatusCode::ABORT_TYPE_MISMATCH_ERROR),
+        Arm::Nop => Stepped::Next(weight),
+        Arm::Resource => resource_instr(area, weight, s, index, view, it),
+        Arm::Shift => pair_steps::shift(area, weight),
+        Arm::Vector => vector_instr(area, weight, s, index, view, it),
     }
 }

@@ -1,16 +1,15 @@
 -- Each opcode does its own step; the last is the one that is left.
-use mathlib.Core.Path.{_≡_, refl}
-use mathlib.Core.List.{[], _∷_}
 use native.Mathlib.Omega.{arith}
 use Rattle.definitions.specs.TypeSafety.{verifyInstr}
 use Rattle.record_views.specs.Records.{instructionOf}
-use Rattle.instructions.specs.Does.{Each, by-arm, key-does}
+use Rattle.instruction_arms.specs.Arms.{past}
+use Rattle.instructions.specs.Does.{key-does}
 use borrow.Author.Needs.{needs}
 use Rattle.instructions.proofs.vector_instr.Statement.{statement}
 use Rattle.instructions.proofs.vector_instr.Tie as tie
 
 pub vector-instr-spec : {M : Type 1} → statement M
-unfolding instructionOf verifyInstr Each
+unfolding instructionOf verifyInstr
 vector-instr-spec =
     tie.close
     (tie.spec
@@ -39,6 +38,4 @@ vector-instr-spec =
     (λ c. search needs)
     (λ c p. let arm = c .before .before in
     let start = arm .before .before .before .before in
-    key-does 70
-    (by-arm (69 ∷ 68 ∷ 67 ∷ 66 ∷ 65 ∷ 64 ∷ 63 ∷ []) (λ k. k ≡ 70) 63 8 (tt, (tt, (tt, (tt, (tt, (tt, (tt, (refl, tt)))))))) _ (arm .match .rest)
-    (omega (arith, start .pre .1 .1 .from)) (omega (arith, start .pre .1 .1 .to))) (c .vec-swap .ensures p)))
+    key-does 70 (omega (arith, start .pre .1 .1 .to, past 63 7 _ (start .pre .1 .1 .from) (arm .match .rest))) (c .vec-swap .ensures p)))

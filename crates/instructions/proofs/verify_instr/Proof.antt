@@ -1,21 +1,35 @@
--- An opcode with an arm of its own does that step; one in a range does the range's, since it is none of those with arms of their own.
-use mathlib.Core.Path.{refl}
-use mathlib.Core.List.{List, [], _∷_}
-use Prim.Native.Nat.{ℕ}
-use native.Mathlib.Omega.{arith}
+-- Each arm does the step of its opcodes; `arm_of` tells that the opcode is one of them.
+use mathlib.Core.Path.{_≡_, refl}
+use mathlib.Core.List.{List}
+use Prim.Native.Nat.{ℕ, _-_}
+use denote.Ref.{now}
 use Rattle.definitions.specs.SignatureToken.{Bool′, U64, encode}
+use Rattle.definitions.specs.Reader.{compiledUnit}
 use Rattle.definitions.specs.TypeSafety.{verifyInstr}
 use Rattle.record_views.specs.Records.{instructionOf}
 use Rattle.signature_token.specs.TokenLaws.{is-bool, is-u64}
 use Rattle.type_stack.specs.Stepping.{done-here}
-use Rattle.instructions.specs.Does.{load-does, cast-does, third, Each, does-at, key-at, arm-at, between}
+use Rattle.type_stack.specs.declared.Stepped.{Stepped}
+use Rattle.unit.specs.Views.{UnitRead}
+use Rattle.instruction_arms.specs.declared.Arm.{Arm}
+use Rattle.instruction_arms.specs.Arms.{opcodes}
+use Rattle.instructions.specs.Does.{StepOf, DoesAt, Between, Each, load-does, cast-does, third, does-at, range-does, between}
 use borrow.Author.Needs.{needs}
 use Rattle.instructions.proofs.verify_instr.Statement.{statement}
 use Rattle.instructions.proofs.verify_instr.Tie as tie
 
--- the opcodes with arms of their own, the last first
-abbrev keys : List ℕ
-keys = 54 ∷ 53 ∷ 46 ∷ 25 ∷ 24 ∷ 23 ∷ 16 ∷ 15 ∷ 14 ∷ 11 ∷ 4 ∷ 1 ∷ 0 ∷ []
+-- behind the call of `arm_of`, where it answered x: the opcode is one of that arm's
+within : {x : Arm} (c : tie.After-arm-of) → c .arm-of .result ≡ x → Between (opcodes x .0) (opcodes x .1) (c .before .instruction-at .result)
+within c e = between (c .arm-of .ensures) e
+
+-- so the instruction's step is done where that of each of the arm's opcodes is
+done :
+    {x : Arm} {a b : List ℕ} {w : ℕ} {r : Stepped} (c : tie.After-arm-of) → c .arm-of .result ≡ x →
+    let start = c .before .before .before .before .before .before .before in
+    (p : UnitRead (now (start .args .s)) (now (start .args .index)) (start .args .view)) →
+    Each (StepOf (compiledUnit (p .decoded)) (c .before .instruction-at .result) a w b r) (opcodes x .0) (opcodes x .1 - opcodes x .0) →
+    DoesAt (compiledUnit (p .decoded)) (start .args .i) a w b r
+done c e p h = does-at (c .before .instruction-at .ensures p) (range-does (within c e) h)
 
 pub verify-instr-spec : {M : Type 1} → statement M
 unfolding instructionOf verifyInstr Each encode
@@ -23,137 +37,134 @@ verify-instr-spec =
     tie.close
     (tie.spec
     (λ c κs. search needs)
+    (λ c κs. c .instruction-at .ensures (c .before .before .before .before .before .before .pre .1 .0) .known)
+    (λ c. search needs)
     (λ c κs. search needs)
+    (λ c. search needs)
     (λ c κs. search needs)
+    (λ c. search needs)
     (λ c κs. search needs)
+    (λ c. search needs)
+    (λ c. search needs)
+    (λ c. within (c .before .before .before) (c .before .enum-told5 .given .1) .from)
+    (λ c κs. third _ (within (c .before .before .before) (c .before .enum-told5 .given .1)))
     (λ c κs. search needs)
+    (λ c. search needs)
+    (λ c. within (c .before .before .before) (c .before .enum-told6 .given .1) .from)
+    (λ c κs. third _ (within (c .before .before .before) (c .before .enum-told6 .given .1)))
     (λ c κs. search needs)
+    (λ c. search needs)
     (λ c κs. search needs)
+    (λ c. search needs)
     (λ c κs. search needs)
+    (λ c. search needs)
     (λ c κs. search needs)
+    (λ c. search needs)
     (λ c κs. search needs)
+    (λ c. search needs)
     (λ c κs. search needs)
+    (λ c. search needs)
+    (λ c κs. search (needs, within (c .before .before .before) (c .before .enum-told12 .given .1)))
+    (λ c. search needs)
+    (λ c κs. search (needs, within (c .before .before .before) (c .before .enum-told13 .given .1)))
+    (λ c. search needs)
     (λ c κs. search needs)
+    (λ c. search needs)
     (λ c κs. search needs)
-    (λ c. let arm = c .before .before .before .before in
-    between keys 5 7 4 4 {it = arm .before .instruction-at .result} (tt, (refl, (refl, (refl, tt)))) (arm .match .rest) (omega arith)
-    (omega arith) .from)
-    (λ c κs. let arm = c .before .before .before .before in
-    third _
-    (between keys 5 7 4 4 {it = arm .before .instruction-at .result} (tt, (refl, (refl, (refl, tt)))) (arm .match .rest) (omega arith) (omega arith)))
+    (λ c. search needs)
     (λ c κs. search needs)
-    (λ c κs. let arm = c .before .before .before .before .before in
-    third _
-    (between keys 8 10 8 3 {it = arm .before .instruction-at .result} (refl, (refl, (refl, tt))) (arm .match .rest) (omega arith) (omega arith)))
-    (λ c κs. search needs)
-    (λ c κs. search needs)
-    (λ c κs. let arm = c .before .before .before .before .before .before .before in
-    let start = arm .before .before .before .before .before .before .before in
-    (start .pre .0, (start .pre .1 .0, between keys 17 18 14 5 (tt, (tt, (tt, (refl, (refl, tt))))) (arm .match .rest) (omega arith) (omega arith))))
-    (λ c κs. let start = c .before .before .before .before .before .before .before .before .before .before .before .before .before .before .before in
-    (start .pre .0, (start .pre .1 .0, record { from = omega arith; to = omega arith })))
-    (λ c κs. let arm = c .before .before .before .before .before .before .before .before .before in
-    let start = arm .before .before .before .before .before .before .before in
-    let it = arm .before .instruction-at .result in
-    let within = between keys 26 27 23 5 {it = it} (tt, (tt, (tt, (refl, (refl, tt))))) (arm .match .rest) (omega arith) (omega arith) in
-    (start .pre .0, (start .pre .1 .0, (start .pre .1 .1 .0, within))))
-    (λ c κs. let start = c .before .before .before .before .before .before .before .before .before .before .before .before .before .before .before .before in
-    (start .pre .0, (start .pre .1 .0, record { from = omega arith; to = omega arith })))
+    (λ c. search needs)
     (λ c κs. let start = c .before .before .before .before .before .before .before .before .before .before in
-    (start .pre .0, (start .pre .1 .0, record { from = omega arith; to = omega arith })))
+    (start .pre .0, (start .pre .1 .0, (start .pre .1 .1 .0, within (c .before .before .before) (c .before .enum-told17 .given .1)))))
+    (λ c. search needs)
+    (λ c κs. search (needs, within (c .before .before .before) (c .before .enum-told18 .given .1)))
+    (λ c. search needs)
+    (λ c κs. search (needs, within (c .before .before .before) (c .before .enum-told19 .given .1)))
+    (λ c. search needs)
     (λ c κs. search needs)
+    (λ c. search needs)
     (λ c κs. search needs)
+    (λ c. search needs)
     (λ c κs. search needs)
+    (λ c. search needs)
     (λ c κs. search needs)
-    (λ c κs. let arm = c .before .before .before .before .before .before .before .before in
-    let start = arm .before .before .before .before .before .before .before in
-    let it = arm .before .instruction-at .result in
-    let within = between keys 55 60 53 8 {it = it} (tt, (tt, (refl, (refl, (refl, (refl, (refl, (refl, tt)))))))) (arm .match .rest) (omega arith) (omega arith) in
-    (start .pre .0, (start .pre .1 .0, within)))
+    (λ c. search needs)
     (λ c κs. search needs)
-    (λ c κs. let read = c .before .before .before .before .before .before .before .before .before .before in
-    let start = read .before .before .before .before .before .before in
-    let known = read .instruction-at .ensures (start .pre .1 .0) .known in
-    (start .pre .0, (start .pre .1 .0, record { from = omega arith; to = omega (arith, known) })))
     (λ c. search needs)
-    (λ c p. key-at (c .before .before .before .instruction-at .ensures p) 0 (omega arith) (c .pop-step .ensures p))
+    (λ c κs. search needs)
     (λ c. search needs)
-    (λ c p. key-at (c .before .before .before .instruction-at .ensures p) 1 (omega arith) (c .ret-step .ensures p))
-    (λ c p. key-at (c .before .instruction-at .ensures p) 4 (omega arith) (done-here))
     (λ c. search needs)
-    (λ c p. key-at (c .before .before .before .before .before .instruction-at .ensures p) 11 (omega arith) (c .before .before .ld-const .ensures p))
+    (λ c κs. search (needs, within (c .before .before .before) (c .before .enum-told27 .given .1)))
     (λ c. search needs)
-    (λ c p. key-at (c .before .before .before .before .before .instruction-at .ensures p) 14 (omega arith) (c .before .before .copy-loc .ensures p))
+    (λ c κs. search needs)
     (λ c. search needs)
-    (λ c p. key-at (c .before .before .before .before .before .instruction-at .ensures p) 15 (omega arith) (c .before .before .move-loc .ensures p))
+    (λ c κs. search (needs, within (c .before .before .before) (c .before .enum-told29 .given .1)))
     (λ c. search needs)
-    (λ c p. key-at (c .before .before .before .instruction-at .ensures p) 16 (omega arith) (c .st-loc .ensures p))
+    (λ c p. done (c .before .before .before .before) (c .before .before .enum-told .given .1) p (c .pop-step .ensures p))
     (λ c. search needs)
-    (λ c p. key-at (c .before .before .before .before .before .instruction-at .ensures p) 23 (omega arith) (c .before .before .read-ref .ensures p))
+    (λ c p. done (c .before .before .before .before) (c .before .before .enum-told2 .given .1) p (c .ret-step .ensures p))
     (λ c. search needs)
-    (λ c p. key-at (c .before .before .before .instruction-at .ensures p) 24 (omega arith) (c .write-ref .ensures p))
+    (λ c p. let h = c .pop-leaf .ensures .steps Bool′ is-bool in
+    done (c .before .before .before .before) (c .before .before .enum-told3 .given .1) p (h, h))
+    (λ c p. done (c .before .before) (c .enum-told4 .given .1) p done-here)
     (λ c. search needs)
-    (λ c p. key-at (c .before .before .before .before .before .instruction-at .ensures p) 25 (omega arith) (c .before .before .freeze-ref .ensures))
-    (λ c. search needs)
-    (λ c p. key-at (c .before .before .before .instruction-at .ensures p) 46 (omega arith) (c .negation .ensures))
-    (λ c. search needs)
-    (λ c p. key-at (c .before .before .before .instruction-at .ensures p) 53 (omega arith) (c .pop-leaf .ensures .steps U64 is-u64))
-    (λ c p. key-at (c .before .instruction-at .ensures p) 54 (omega arith) (done-here))
-    (λ c. search needs)
-    (λ c p. let arm = c .before .before .before .before in
-    let h = c .pop-leaf2 .ensures .steps Bool′ is-bool in
-    arm-at (arm .before .instruction-at .ensures p) keys 0 4 (tt, (tt, (h, (h, tt)))) (arm .match .rest) (omega arith) (omega arith))
-    (λ c. search needs)
-    (λ c p. let arm = c .before .before .before .before .before .before .before .before in
+    (λ c p. let arm = c .before .before .before .before .before .before .before in
     does-at (arm .before .instruction-at .ensures p)
-    (load-does (between keys 5 7 4 4 (tt, (refl, (refl, (refl, tt)))) (arm .match .rest) (omega arith) (omega arith))
-    (rw (c .before .before .before .integer-type .ensures) at (c .before .before .push-leaf .ensures)) .steps))
+    (load-does (within arm (c .before .before .before .before .before .enum-told5 .given .1))
+    (rw (c .before .before .before .integer-type .ensures) at (c .before .before .push-leaf .ensures))))
     (λ c. search needs)
-    (λ c p. let arm = c .before .before .before .before .before .before .before .before .before in
+    (λ c p. let arm = c .before .before .before .before .before .before .before in
     does-at (arm .before .instruction-at .ensures p)
-    (cast-does (between keys 8 10 8 3 (refl, (refl, (refl, tt))) (arm .match .rest) (omega arith) (omega arith))
-    (rw (c .before .before .before .integer-type2 .ensures) at (c .before .before .cast .ensures)) .steps))
+    (cast-does (within arm (c .before .before .before .before .before .enum-told6 .given .1))
+    (rw (c .before .before .before .integer-type2 .ensures) at (c .before .before .cast .ensures))))
     (λ c. search needs)
-    (λ c p. let arm = c .before .before .before .before .before .before .before .before .before in
-    let h = c .before .before .push-leaf2 .ensures .steps Bool′ refl in
-    arm-at (arm .before .instruction-at .ensures p) keys 11 3 (tt, (h, (h, tt))) (arm .match .rest) (omega arith) (omega arith))
+    (λ c p. done (c .before .before .before .before .before .before) (c .before .before .before .before .enum-told7 .given .1) p (c .before .before .ld-const .ensures p))
     (λ c. search needs)
-    (λ c p. does-at (c .before .before .before .before .before .before .before .before .before .before .before .instruction-at .ensures p)
-    (c .before .before .call-instr .ensures p .steps))
+    (λ c p. let h = c .before .before .push-leaf2 .ensures .steps Bool′ refl in
+    done (c .before .before .before .before .before .before) (c .before .before .before .before .enum-told8 .given .1) p (h, h))
     (λ c. search needs)
-    (λ c p. does-at (c .before .before .before .before .before .before .before .before .before .before .before .before .instruction-at .ensures p)
-    (c .before .before .struct-instr .ensures p .steps))
+    (λ c p. done (c .before .before .before .before .before .before) (c .before .before .before .before .enum-told9 .given .1) p (c .before .before .copy-loc .ensures p))
     (λ c. search needs)
-    (λ c p. does-at (c .before .before .before .before .before .before .before .before .before .before .before .before .before .instruction-at .ensures p)
-    (c .before .before .borrow-loc-instr .ensures p .steps))
+    (λ c p. done (c .before .before .before .before .before .before) (c .before .before .before .before .enum-told10 .given .1) p (c .before .before .move-loc .ensures p))
     (λ c. search needs)
-    (λ c p. does-at (c .before .before .before .before .before .before .before .before .before .before .before .before .before .instruction-at .ensures p)
-    (c .before .before .field-instr .ensures p .steps))
+    (λ c p. done (c .before .before .before .before) (c .before .before .enum-told11 .given .1) p (c .st-loc .ensures p))
     (λ c. search needs)
-    (λ c p. does-at (c .before .before .before .before .before .before .before .instruction-at .ensures p) (c .before .before .global-instr .ensures p .steps))
+    (λ c p. does-at (c .before .before .before .before .before .before .before .instruction-at .ensures p) (c .before .before .call-instr .ensures p))
     (λ c. search needs)
-    (λ c p. let arm = c .before .before .before .before .before in
-    let h = c .arithmetic .ensures in
-    arm-at (arm .before .instruction-at .ensures p) keys 36 8 (h, (h, (h, (h, (h, (h, (h, (h, tt)))))))) (arm .match .rest) (omega arith) (omega arith))
+    (λ c p. does-at (c .before .before .before .before .before .before .before .instruction-at .ensures p) (c .before .before .struct-instr .ensures p))
     (λ c. search needs)
-    (λ c p. let arm = c .before .before .before .before .before .before in
-    let h = c .logical .ensures in
-    arm-at (arm .before .instruction-at .ensures p) keys 44 2 (h, (h, tt)) (arm .match .rest) (omega arith) (omega arith))
+    (λ c p. done (c .before .before .before .before .before .before) (c .before .before .before .before .enum-told14 .given .1) p (c .before .before .read-ref .ensures p))
     (λ c. search needs)
-    (λ c p. let arm = c .before .before .before .before .before .before .before .before .before in
-    let h = c .before .before .equality .ensures p in
-    arm-at (arm .before .instruction-at .ensures p) keys 46 3 (tt, (h, (h, tt))) (arm .match .rest) (omega arith) (omega arith))
+    (λ c p. done (c .before .before .before .before) (c .before .before .enum-told15 .given .1) p (c .write-ref .ensures p))
     (λ c. search needs)
-    (λ c p. let arm = c .before .before .before .before .before .before .before .before .before .before in
-    let h = c .before .before .comparison .ensures in
-    arm-at (arm .before .instruction-at .ensures p) keys 49 4 (h, (h, (h, (h, tt)))) (arm .match .rest) (omega arith) (omega arith))
+    (λ c p. done (c .before .before .before .before .before .before) (c .before .before .before .before .enum-told16 .given .1) p (c .before .before .freeze-ref .ensures))
     (λ c. search needs)
-    (λ c p. does-at (c .before .before .before .before .before .before .before .before .before .before .before .before .instruction-at .ensures p)
-    (c .before .before .resource-instr .ensures p .steps))
+    (λ c p. does-at (c .before .before .before .before .before .before .before .instruction-at .ensures p) (c .before .before .borrow-loc-instr .ensures p))
     (λ c. search needs)
-    (λ c p. let arm = c .before .before .before .before .before .before .before .before .before .before in
-    let h = c .shift .ensures in
-    arm-at (arm .before .instruction-at .ensures p) keys 61 2 (h, (h, tt)) (arm .match .rest) (omega arith) (omega arith))
+    (λ c p. does-at (c .before .before .before .before .before .before .before .instruction-at .ensures p) (c .before .before .field-instr .ensures p))
     (λ c. search needs)
-    (λ c p. does-at (c .before .before .before .before .before .before .before .before .before .before .before .before .before .instruction-at .ensures p)
-    (c .before .before .vector-instr .ensures p .steps)))
+    (λ c p. does-at (c .before .before .before .before .before .before .before .instruction-at .ensures p) (c .before .before .global-instr .ensures p))
+    (λ c. search needs)
+    (λ c p. let h = c .arithmetic .ensures in
+    done (c .before .before .before .before) (c .before .before .enum-told20 .given .1) p (h, (h, (h, (h, (h, (h, (h, h))))))))
+    (λ c. search needs)
+    (λ c p. let h = c .logical .ensures in
+    done (c .before .before .before .before) (c .before .before .enum-told21 .given .1) p (h, h))
+    (λ c. search needs)
+    (λ c p. done (c .before .before .before .before) (c .before .before .enum-told22 .given .1) p (c .negation .ensures))
+    (λ c. search needs)
+    (λ c p. let h = c .before .before .equality .ensures p in
+    done (c .before .before .before .before .before .before) (c .before .before .before .before .enum-told23 .given .1) p (h, h))
+    (λ c. search needs)
+    (λ c p. let h = c .before .before .comparison .ensures in
+    done (c .before .before .before .before .before .before) (c .before .before .before .before .enum-told24 .given .1) p (h, (h, (h, h))))
+    (λ c. search needs)
+    (λ c p. done (c .before .before .before .before) (c .before .before .enum-told25 .given .1) p (c .pop-leaf2 .ensures .steps U64 is-u64))
+    (λ c p. done (c .before .before) (c .enum-told26 .given .1) p done-here)
+    (λ c. search needs)
+    (λ c p. does-at (c .before .before .before .before .before .before .before .instruction-at .ensures p) (c .before .before .resource-instr .ensures p))
+    (λ c. search needs)
+    (λ c p. let h = c .shift .ensures in
+    done (c .before .before .before .before) (c .before .before .enum-told28 .given .1) p (h, h))
+    (λ c. search needs)
+    (λ c p. does-at (c .before .before .before .before .before .before .before .instruction-at .ensures p) (c .before .before .vector-instr .ensures p)))
