@@ -14,19 +14,23 @@ use Rattle.definitions.specs.SignatureToken.{SignatureToken, SignatureTokens, [
 use Rattle.definitions.specs.CompiledUnit.{StructHandle}
 use Rattle.definitions.specs.Substitution.{materializeType}
 use Rattle.definitions.specs.Abilities.{isPhantomOf, abilitiesIn, abilitiesOfAll}
-use Rattle.definitions.specs.Places.{TypeAt, TypesAt}
+use Rattle.definitions.specs.Places.{TypeAt, TypesAt, EndOfType, EndOfTypes}
 use Rattle.theorems.specs.Bytes.{listOf, arguments-listOf}
 use Rattle.file_format.specs.AbilitySet.{setOf, isPhantomByte, abilitiesAnswer}
 use Rattle.file_format.specs.declared.StructHandleIndex.{StructHandleIndex}
+use Rattle.file_format.specs.declared.AbilitySet.{AbilitySet}
 use Rattle.file_format.specs.declared.Abilities.{Abilities}
 use Rattle.file_format.specs.declared.Abilities.the-variants.{Found, Refused}
 use Rattle.signature_token.specs.declared.Token.{Token}
 use Rattle.signature_token.specs.declared.Token.the-variants.{Leaf, Wrapped, Struct, StructInstantiation, TypeParameter}
+use Rattle.signature_token.specs.declared.Wrapper.{Wrapper}
 use Rattle.signature_token.specs.declared.Wrapper.the-variants as wrapper
 use Rattle.signature_token.specs.Token.{TokenAt}
 use Rattle.signature_token.specs.TokenLaws.{IsLeaf, is-bool, is-u8, is-u64, is-u128, is-address, is-signer, leaf-at, wrapped-at, struct-at, instantiation-at, parameter-at, none-is}
-use Rattle.signature_token.specs.Ends.{typeMeasure, listMeasure, type-room}
+use Rattle.signature_token.specs.Ends.{leaf-end, struct-end, parameter-end, typeMeasure, listMeasure, type-room}
 use Rattle.binary_views.specs.declared.Place.the-variants.{At, OutOfTable}
+use Rattle.binary_views.specs.declared.AbilitiesTo.{AbilitiesTo}
+use Rattle.binary_views.specs.declared.AbilitiesTo.the-variants as to
 use Rattle.binary_views.specs.declared.Gathered.{Gathered}
 use Rattle.binary_views.specs.declared.Gathered.the-variants as gathered
 use Rattle.binary_views.specs.Tables.{PlaceAt, element-within, element-past, entry-at, entry-past}
@@ -40,16 +44,27 @@ resultOf (Found set) = ok (set .0)
 resultOf (Refused status) = err status
 
 abbrev pub gatheredOf : Gathered → List ℕ → Result (List ℕ)
-gatheredOf gathered.All sets = ok sets
+gatheredOf (gathered.To end) sets = ok sets
 gatheredOf (gathered.Refused status) sets = err status
+
+-- an answer without the type's end
+abbrev pub withoutEnd : AbilitiesTo → Abilities
+withoutEnd (to.Found set end) = Found set
+withoutEnd (to.Refused status) = Refused status
+
+-- an answer with the type's end
+abbrev pub endingAt : Abilities → ℕ → AbilitiesTo
+endingAt (Found set) end = to.Found set end
+endingAt (Refused status) end = to.Refused status
 
 -- by a leaf's command, 6 being signer
 abbrev pub leafSet : ℕ → ℕ
 leafSet command = cond (eqb command 6) SIGNER PRIMITIVES
 
 -- a vector's abilities by its element's
-abbrev pub ofVector : Abilities → Abilities
-ofVector element = abilitiesAnswer (resultOf element >>? λ set. polymorphicAbilities VECTOR (false ∷ []) (set ∷ []))
+abbrev pub ofVector : AbilitiesTo → AbilitiesTo
+ofVector (to.Found set end) = endingAt (abilitiesAnswer (polymorphicAbilities VECTOR (false ∷ []) (set .0 ∷ []))) end
+ofVector (to.Refused status) = to.Refused status
 
 -- r is the answer for a struct with the i-th handle
 pub record StructAbilitiesAt (unit handles : List ℕ) (i : ℕ) (r : Abilities) : Type 0 where
@@ -71,10 +86,24 @@ pub record InstantiationAt (i : ℕ) (ty : List ℕ) (place n : ℕ) (unit handl
 pub record MaterializedAbilities (i : ℕ) (ty : List ℕ) (place n : ℕ) (unit handles constraints : List ℕ) (r : Abilities) : Type 0 where
   pub answers : (q : TypesAt ty place n) (h : HandlesAt unit handles) → r ≡ abilitiesAnswer (abilitiesIn (h .structHandles) constraints (materializeType i (listOf (q .types))))
 
--- r is the answer for the n types at `place`, with their sets at the front of `sets`
+-- A holds of the answer r without its end, and E of the end; of a refusal's end nothing is said
+pub record WithEnd (A : Abilities → Type 0) (E : ℕ → Type 0) (r : AbilitiesTo) : Type 0 where
+  pub answer : A (withoutEnd r)
+  pub ends : {set : AbilitySet} {end : ℕ} → r ≡ to.Found set end → E end
+
+-- r is the answer for the type at `place`, with where it ends
+abbrev pub AbilitiesToAt : List ℕ → ℕ → List ℕ → List ℕ → List ℕ → AbilitiesTo → Type 0
+AbilitiesToAt ty place unit handles constraints = WithEnd (AbilitiesAt ty place unit handles constraints) (EndOfType ty place)
+
+-- r is the answer for the struct with the arguments at `place`, with where they end
+abbrev pub InstantiationToAt : ℕ → List ℕ → ℕ → ℕ → List ℕ → List ℕ → List ℕ → AbilitiesTo → Type 0
+InstantiationToAt i ty place n unit handles constraints = WithEnd (InstantiationAt i ty place n unit handles constraints) (EndOfTypes ty place n)
+
+-- r is the answer for the n types at `place`, with their sets at the front of `sets` and where they end
 pub record GatheredAt (ty : List ℕ) (place n : ℕ) (unit handles constraints sets : List ℕ) (r : Gathered) : Type 0 where
   pub room : n ≤ length sets
   pub answers : (q : TypesAt ty place n) (h : HandlesAt unit handles) → gatheredOf r (take n sets) ≡ abilitiesOfAll (h .structHandles) constraints (q .types)
+  pub ends : {end : ℕ} → r ≡ gathered.To end → EndOfTypes ty place n end
 
 -- a struct's walk: that along its arguments comes next
 abbrev pub structMeasure : List ℕ → ℕ → ℕ → ℕ
@@ -118,11 +147,36 @@ module _ (constraints : List ℕ) (i : ℕ) where
   unfolding at
   parameter-past l = rw (element-past constraints i l)
 
--- ── types ──
+-- ── answers and ends ──
 
 pub answer-back : (a : Result ℕ) → resultOf (abilitiesAnswer a) ≡ a
 answer-back (ok set) = refl
 answer-back (err status) = refl
+
+module _ {A : Abilities → Type 0} {E : ℕ → Type 0} where
+  pub with-refusal : {z : StatusCode} → A (Refused z) → WithEnd A E (to.Refused z)
+  with-refusal a = record { answer = a; ends = λ k. let z : _≡_ {A = ℕ} 0 1 = cc in absurd (omega arith) }
+
+  pub with-end : (r : Abilities) (end : ℕ) → A r → E end → WithEnd A E (endingAt r end)
+  with-end (Found set) end a e = record { answer = a; ends = λ {end = e′} k. let z : end ≡ e′ = cc in rw (← z) e }
+  with-end (Refused status) end a e = with-refusal a
+
+-- an end is within the bytes
+pub end-room : {ty : List ℕ} {place end : ℕ} → EndOfType ty place end → TypeAt ty place → end ≤ length ty
+end-room e p = omega (arith, e p, type-room p)
+
+module _ {ty : List ℕ} {place : ℕ} {token : Token} (w : TokenAt ty place token) where
+  -- what is around a type ends where the type does
+  wrapped-end : {v : Wrapper} {x end : ℕ} → token ≡ Wrapped v x → EndOfType ty x end → EndOfType ty place end
+  wrapped-end e f p = let k = wrapped-at w p e in omega (arith, f (record { type = k .inner; stands = k .stands }), k .place, k .long)
+
+  -- an instantiated struct ends where its arguments do
+  instantiation-end : {k : StructHandleIndex} {n x end : ℕ} → token ≡ StructInstantiation k n x → EndOfTypes ty x n end → EndOfType ty place end
+  instantiation-end e f p =
+      let i = instantiation-at w p e in
+      omega (arith, f (record { types = i .types; counted = i .counted; stands = i .stands }), i .place, i .long)
+
+-- ── types ──
 
 pub leaf-is : (hs : List StructHandle) (constraints : List ℕ) {t : SignatureToken} {b : ℕ} → IsLeaf t b → abilitiesIn hs constraints t ≡ ok (leafSet b)
 unfolding abilitiesIn
@@ -134,32 +188,48 @@ leaf-is hs constraints is-address = refl
 leaf-is hs constraints is-signer = refl
 
 module _ {ty : List ℕ} {place : ℕ} {unit handles constraints : List ℕ} {token : Token} (w : TokenAt ty place token) where
-  pub leaf-abilities : {b : ℕ} → token ≡ Leaf b → AbilitiesAt ty place unit handles constraints (Found (setOf (leafSet b)))
-  leaf-abilities e = record { answers = λ p h. sym (ap abilitiesAnswer (leaf-is (h .structHandles) constraints (leaf-at w p e))) }
+  pub leaf-abilities : {b : ℕ} → token ≡ Leaf b → AbilitiesToAt ty place unit handles constraints (to.Found (setOf (leafSet b)) (place + 1))
+  leaf-abilities {b} e =
+      with-end (Found (setOf (leafSet b))) (place + 1)
+      (record { answers = λ p h. sym (ap abilitiesAnswer (leaf-is (h .structHandles) constraints (leaf-at w p e))) })
+      (leaf-end w e)
 
-  pub vector-abilities : {x : ℕ} {r : Abilities} → token ≡ Wrapped wrapper.Vector x → AbilitiesAt ty x unit handles constraints r → AbilitiesAt ty place unit handles constraints (ofVector r)
+  vector-answer :
+      {x : ℕ} {r : Abilities} → token ≡ Wrapped wrapper.Vector x → AbilitiesAt ty x unit handles constraints r →
+      AbilitiesAt ty place unit handles constraints (abilitiesAnswer (resultOf r >>? λ set. polymorphicAbilities VECTOR (false ∷ []) (set ∷ [])))
   unfolding abilitiesIn
-  vector-abilities e f = record {
+  vector-answer e f = record {
     answers = λ p h.
         let k = wrapped-at w p e in
         rw (k .is, f .answers (record { type = k .inner; stands = k .stands }) h, answer-back (abilitiesIn (h .structHandles) constraints (k .inner)));
   }
 
-  pub reference-abilities : {x : ℕ} → token ≡ Wrapped wrapper.Reference x → AbilitiesAt ty place unit handles constraints (Found (setOf REFERENCES))
-  unfolding abilitiesIn
-  reference-abilities e = record { answers = λ p h. rw (wrapped-at w p e .is) }
+  pub vector-abilities :
+      {x : ℕ} (r : AbilitiesTo) → token ≡ Wrapped wrapper.Vector x → AbilitiesToAt ty x unit handles constraints r → AbilitiesToAt ty place unit handles constraints (ofVector r)
+  unfolding _>>?_
+  vector-abilities (to.Found set end) e f = with-end _ end (vector-answer e (f .answer)) (wrapped-end w e (f .ends refl))
+  vector-abilities (to.Refused status) e f = with-refusal (vector-answer e (f .answer))
 
-  pub mutable-reference-abilities : {x : ℕ} → token ≡ Wrapped wrapper.MutableReference x → AbilitiesAt ty place unit handles constraints (Found (setOf REFERENCES))
+  pub reference-abilities :
+      {x end : ℕ} → token ≡ Wrapped wrapper.Reference x → EndOfType ty x end → AbilitiesToAt ty place unit handles constraints (to.Found (setOf REFERENCES) end)
   unfolding abilitiesIn
-  mutable-reference-abilities e = record { answers = λ p h. rw (wrapped-at w p e .is) }
+  reference-abilities {end = end} e f = with-end (Found (setOf REFERENCES)) end (record { answers = λ p h. rw (wrapped-at w p e .is) }) (wrapped-end w e f)
 
-  pub struct-abilities : {k : StructHandleIndex} {r : Abilities} → token ≡ Struct k → StructAbilitiesAt unit handles (k .0) r → AbilitiesAt ty place unit handles constraints r
+  pub mutable-reference-abilities :
+      {x end : ℕ} → token ≡ Wrapped wrapper.MutableReference x → EndOfType ty x end → AbilitiesToAt ty place unit handles constraints (to.Found (setOf REFERENCES) end)
   unfolding abilitiesIn
-  struct-abilities e f = record { answers = λ p h. rw (struct-at w p e .is) (f .answers h) }
+  mutable-reference-abilities {end = end} e f = with-end (Found (setOf REFERENCES)) end (record { answers = λ p h. rw (wrapped-at w p e .is) }) (wrapped-end w e f)
 
-  pub parameter-abilities : {i : ℕ} → token ≡ TypeParameter i → AbilitiesAt ty place unit handles constraints (abilitiesAnswer (at constraints i))
+  pub struct-abilities :
+      {k : StructHandleIndex} {r : Abilities} → token ≡ Struct k → StructAbilitiesAt unit handles (k .0) r →
+      AbilitiesToAt ty place unit handles constraints (endingAt r (place + 3))
   unfolding abilitiesIn
-  parameter-abilities e = record { answers = λ p h. rw (parameter-at w p e .is) }
+  struct-abilities {r = r} e f = with-end r (place + 3) (record { answers = λ p h. rw (struct-at w p e .is) (f .answers h) }) (struct-end w e)
+
+  pub parameter-abilities : {i : ℕ} → token ≡ TypeParameter i → AbilitiesToAt ty place unit handles constraints (endingAt (abilitiesAnswer (at constraints i)) (place + 3))
+  unfolding abilitiesIn
+  parameter-abilities {i} e =
+      with-end (abilitiesAnswer (at constraints i)) (place + 3) (record { answers = λ p h. rw (parameter-at w p e .is) }) (parameter-end w e)
 
 -- ── an instantiated struct ──
 
@@ -175,28 +245,35 @@ module _ {ty : List ℕ} {place : ℕ} {token : Token} (w : TokenAt ty place tok
 -- the type is the struct with the arguments at x
 pub instantiation-type :
     {ty : List ℕ} {place : ℕ} {unit handles constraints : List ℕ} {token : Token} → TokenAt ty place token → {k : StructHandleIndex} {n x : ℕ} →
-    token ≡ StructInstantiation k n x → {r : Abilities} → InstantiationAt (k .0) ty x n unit handles constraints r → AbilitiesAt ty place unit handles constraints r
+    token ≡ StructInstantiation k n x → {r : AbilitiesTo} → InstantiationToAt (k .0) ty x n unit handles constraints r → AbilitiesToAt ty place unit handles constraints r
 instantiation-type w e f = record {
-  answers = λ p h. let i = instantiation-at w p e in rw (i .is) (f .answers (record { types = i .types; counted = i .counted; stands = i .stands }) h);
+  answer = record {
+    answers = λ p h.
+        let i = instantiation-at w p e in
+        rw (i .is) (f .answer .answers (record { types = i .types; counted = i .counted; stands = i .stands }) h);
+  };
+  ends = λ k. instantiation-end w e (f .ends k);
 }
 
 module _ {i : ℕ} {ty : List ℕ} {place n : ℕ} {unit handles constraints : List ℕ} where
-  pub instantiation-past : PlaceAt handles i OutOfTable → InstantiationAt i ty place n unit handles constraints (Refused «OUT_OF_TABLE»)
+  pub instantiation-past : PlaceAt handles i OutOfTable → InstantiationToAt i ty place n unit handles constraints (to.Refused «OUT_OF_TABLE»)
   unfolding abilitiesIn _>>?_
-  instantiation-past f = record { answers = λ q h. rw (entry-past (h .stand) f) }
+  instantiation-past f = with-refusal (record { answers = λ q h. rw (entry-past (h .stand) f) })
 
   module _ {p : ℕ} {sets : List ℕ} (f : PlaceAt handles i (At p)) where
-    pub argument-refused : {z : StatusCode} → GatheredAt ty place n unit handles constraints sets (gathered.Refused z) → InstantiationAt i ty place n unit handles constraints (Refused z)
+    pub argument-refused :
+        {z : StatusCode} → GatheredAt ty place n unit handles constraints sets (gathered.Refused z) → InstantiationToAt i ty place n unit handles constraints (to.Refused z)
     unfolding abilitiesIn _>>?_
-    argument-refused g = record { answers = λ q h. rw (entry-at (h .stand) f .is, ← g .answers q h) }
+    argument-refused g = with-refusal (record { answers = λ q h. rw (entry-at (h .stand) f .is, ← g .answers q h) })
 
     pub instantiation-abilities :
-        {r : Abilities} → GatheredAt ty place n unit handles constraints sets gathered.All → InstantiatedAt unit p (take n sets) r →
-        InstantiationAt i ty place n unit handles constraints r
+        {r : Abilities} {end : ℕ} → GatheredAt ty place n unit handles constraints sets (gathered.To end) → InstantiatedAt unit p (take n sets) r →
+        InstantiationToAt i ty place n unit handles constraints (endingAt r end)
     unfolding abilitiesIn _>>?_
-    instantiation-abilities g j = record {
-      answers = λ q h. let a = entry-at (h .stand) f in rw (a .is, ← g .answers q h) (j .answers (record { handle = a .item; stands = a .stands }));
-    }
+    instantiation-abilities {r} {end} g j =
+        with-end r end
+        (record { answers = λ q h. let a = entry-at (h .stand) f in rw (a .is, ← g .answers q h) (j .answers (record { handle = a .item; stands = a .stands })) })
+        (g .ends refl)
 
 -- ── what is made of a handle and arguments ──
 

@@ -12,15 +12,15 @@ use Rattle.definitions.specs.Result.{Result, ok, err, _>>?_}
 use Rattle.definitions.specs.SignatureToken.{SignatureToken, SignatureTokens, _∷ᵗ_}
 use Rattle.definitions.specs.CompiledUnit.{StructHandle}
 use Rattle.definitions.specs.Abilities.{abilitiesIn, abilitiesOfAll}
-use Rattle.definitions.specs.Places.{TypeAt, TypesAt, EndOfType}
+use Rattle.definitions.specs.Places.{TypeAt, TypesAt}
 use Rattle.file_format.specs.declared.AbilitySet.{AbilitySet}
 use Rattle.file_format.specs.declared.Abilities.{Abilities}
-use Rattle.file_format.specs.declared.Abilities.the-variants.{Found, Refused}
 use Rattle.signature_token.specs.TokenLaws.{none-is}
-use Rattle.signature_token.specs.Lists.{Rest, along-start, next-is, rest-next, next-type}
+use Rattle.signature_token.specs.Lists.{Rest, left-done, along-start, next-is, rest-next, next-type}
+use Rattle.binary_views.specs.declared.AbilitiesTo.the-variants as to
 use Rattle.binary_views.specs.declared.Gathered.the-variants as gathered
 use Rattle.binary_views.specs.Handles.{HandlesAt}
-use Rattle.binary_views.specs.Abilities.{resultOf, answer-back, AbilitiesAt, GatheredAt}
+use Rattle.binary_views.specs.Abilities.{resultOf, answer-back, AbilitiesAt, AbilitiesToAt, GatheredAt}
 
 -- sets put before those that are gathered later
 abbrev pub behind : List ℕ → Result (List ℕ) → Result (List ℕ)
@@ -85,38 +85,40 @@ module _ {ty : List ℕ} {place n : ℕ} {unit handles constraints sets : List �
         all-more (h .structHandles) constraints (k .is) (sym (ap resultOf (a .answers (record { type = k .first; stands = k .stands }) h) ∙ answer-back first))
 
     pub gathering-next :
-        {a : AbilitySet} {e : ℕ} → i < n → AbilitiesAt ty p unit handles constraints (Found a) → EndOfType ty p e →
+        {a : AbilitySet} {e : ℕ} → i < n → AbilitiesToAt ty p unit handles constraints (to.Found a e) →
         Gathering ty place n unit handles constraints sets₀ (set sets i (a .0)) e (i + 1)
     unfolding _>>?_
-    gathering-next {a} {e} l f end = record {
+    gathering-next {a} {e} l f = record {
       long = length-set sets i (a .0) ∙ g .long;
       room = omega (arith, g .room, length-set sets i (a .0));
       most = omega arith;
       each = λ q h.
           let c = g .each q h in
           record {
-            rest = rest-next l (c .rest) end;
+            rest = rest-next l (c .rest) (f .ends refl);
             whole =
-                c .whole ∙ ap (behind (take i sets)) (rest-is l f q h)
+                c .whole ∙ ap (behind (take i sets)) (rest-is l (f .answer) q h)
                 ∙ behind-one (take i sets) (a .0) (abilitiesOfAll (h .structHandles) constraints (next-is l (c .rest) .others))
                 ∙ rw (add-one i, take-suc-set sets i (a .0) (omega (arith, g .room)));
           };
     }
 
-    pub gathering-refused : {z : StatusCode} → i < n → AbilitiesAt ty p unit handles constraints (Refused z) → GatheredAt ty place n unit handles constraints sets (gathered.Refused z)
+    pub gathering-refused : {z : StatusCode} → i < n → AbilitiesToAt ty p unit handles constraints (to.Refused z) → GatheredAt ty place n unit handles constraints sets (gathered.Refused z)
     unfolding _>>?_
     gathering-refused l f = record {
       room = g .room;
-      answers = λ q h. sym (g .each q h .whole ∙ ap (behind (take i sets)) (rest-is l f q h));
+      answers = λ q h. sym (g .each q h .whole ∙ ap (behind (take i sets)) (rest-is l (f .answer) q h));
+      ends = λ k. let z : _≡_ {A = ℕ} 0 1 = cc in absurd (omega arith);
     }
 
-    pub gathering-done : n ≤ i → GatheredAt ty place n unit handles constraints sets gathered.All
+    pub gathering-done : HandlesAt unit handles → n ≤ i → GatheredAt ty place n unit handles constraints sets (gathered.To p)
     unfolding abilitiesIn _>>?_
-    gathering-done l = record {
+    gathering-done h l = record {
       room = g .room;
       answers = λ q h.
           let c = g .each q h in
           let e : i ≡ n = let m = g .most in omega arith in
           let none = none-is (c .rest .others) (c .rest .counted ∙ omega arith) in
           sym (c .whole ∙ ap (λ ts. behind (take i sets) (abilitiesOfAll (h .structHandles) constraints ts)) none ∙ rw (append-nil (take i sets), e));
+      ends = λ {end} k q. let z : p ≡ end = cc in sym z ∙ left-done (omega arith) (g .each q h .rest);
     }

@@ -16,7 +16,7 @@ ghost use Rattle.definitions.specs.Places.{TypeAt, TypesAt};
 ghost use Rattle.file_format.specs.AbilitySet.{setOf, abilitiesAnswer};
 ghost use Rattle.binary_views.specs.Tables.{PlaceAt};
 ghost use Rattle.binary_views.specs.Handles.{HandleAt, HandlesAt};
-ghost use Rattle.binary_views.specs.Abilities.{leafSet, ofVector, StructAbilitiesAt, InstantiatedAt, AbilitiesAt, InstantiationAt, MaterializedAbilities, GatheredAt};
+ghost use Rattle.binary_views.specs.Abilities.{leafSet, withoutEnd, endingAt, ofVector, StructAbilitiesAt, InstantiatedAt, AbilitiesAt, MaterializedAbilities, AbilitiesToAt, InstantiationToAt, GatheredAt};
 
 // Where a record stands, by the place of its command; or its index is past the table.
 enum Place {
@@ -24,9 +24,15 @@ enum Place {
     OutOfTable,
 }
 
-// All sets were gathered, or one of the types has none.
+// A type's abilities and where the type ends, so that a walk along types goes on from there; or the status of a refusal.
+enum AbilitiesTo {
+    Found(AbilitySet, usize),
+    Refused(StatusCode),
+}
+
+// All sets were gathered, with where the last of the types ends; or one of the types has none.
 enum Gathered {
-    All,
+    To(usize),
     Refused(StatusCode),
 }
 
@@ -52,17 +58,36 @@ pub fn leaf_abilities(command: u8) -> AbilitySet
     }
 }
 
-// The abilities of a vector, by those of its element.
-fn vector_abilities(element: Abilities) -> Abilities
+// The abilities alone.
+fn without_end(found: AbilitiesTo) -> Abilities
+    ensures { λ r. ⌜ r ≡ withoutEnd found ⌝ }
+{
+    match found {
+        AbilitiesTo::Found(set, _) => Abilities::Found(set),
+        AbilitiesTo::Refused(status) => Abilities::Refused(status),
+    }
+}
+
+// The abilities of a type that ends at `end`.
+fn ending_at(found: Abilities, end: usize) -> AbilitiesTo
+    ensures { λ r. ⌜ r ≡ endingAt found end ⌝ }
+{
+    match found {
+        Abilities::Found(set) => AbilitiesTo::Found(set, end),
+        Abilities::Refused(status) => AbilitiesTo::Refused(status),
+    }
+}
+
+// The abilities of a vector, by those of its element, which ends where the vector does.
+fn vector_abilities(element: AbilitiesTo) -> AbilitiesTo
     ensures { λ r. ⌜ r ≡ ofVector element ⌝ }
 {
     match element {
-        Abilities::Found(set) => AbilitySet::polymorphic_abilities(
-            AbilitySet::VECTOR,
-            &[0],
-            &[set.0],
+        AbilitiesTo::Found(set, end) => ending_at(
+            AbilitySet::polymorphic_abilities(AbilitySet::VECTOR, &[0], &[set.0]),
+            end,
         ),
-        Abilities::Refused(status) => Abilities::Refused(status),
+        AbilitiesTo::Refused(status) => AbilitiesTo::Refused(status),
     }
 }
 
@@ -111,25 +136,57 @@ pub fn abilities(
     requires { ⌜ HandlesAt (now unit) (now handles) ⌝ }
     ensures { λ r. ⌜ AbilitiesAt (now (ty .entry)) at (now (unit .entry)) (now (handles .entry)) (now (constraints .entry)) r ⌝ }
 {
+    without_end(abilities_to(ty, at, unit, handles, constraints))
+}
+
+// The same with the type's end, which the walk comes by: were it asked of another walk, each level of a type would be walked once more. Only
+// a reference's end is, since what is inside it has no say in the abilities.
+fn abilities_to(
+    ty: &[u8],
+    at: usize,
+    unit: &[u8],
+    handles: &[u16],
+    constraints: &[u8],
+) -> AbilitiesTo
+    requires { ⌜ TypeAt (now ty) at ⌝ }
+    requires { ⌜ HandlesAt (now unit) (now handles) ⌝ }
+    ensures { λ r. ⌜ AbilitiesToAt (now (ty .entry)) at (now (unit .entry)) (now (handles .entry)) (now (constraints .entry)) r ⌝ }
+{
     match signature_token::token_at(ty, at) {
-        Token::Leaf(command) => Abilities::Found(leaf_abilities(command)),
+        Token::Leaf(command) => AbilitiesTo::Found(leaf_abilities(command), at + 1),
         Token::Wrapped(wrapper, inner) => match wrapper {
-            Wrapper::Vector => vector_abilities(abilities(ty, inner, unit, handles, constraints)),
-            Wrapper::Reference => Abilities::Found(AbilitySet::REFERENCES),
-            Wrapper::MutableReference => Abilities::Found(AbilitySet::REFERENCES),
+            Wrapper::Vector => vector_abilities(abilities_to(
+                ty,
+                inner,
+                unit,
+                handles,
+                constraints,
+            )),
+            Wrapper::Reference => AbilitiesTo::Found(
+                AbilitySet::REFERENCES,
+                signature_token::end_of_type(ty, inner),
+            ),
+            Wrapper::MutableReference => AbilitiesTo::Found(
+                AbilitySet::REFERENCES,
+                signature_token::end_of_type(ty, inner),
+            ),
         },
-        Token::Struct(h) => struct_abilities(unit, handles, h),
-        Token::StructInstantiation(h, n, first) => {
-            // bound first: else each arm writes the answer's two bytes to memory, where they are copied before they have arrived
-            let found = instantiation_abilities(h, ty, first, n, unit, handles, constraints);
-            found
-        }
-        Token::TypeParameter(i) => type_parameter_abilities(constraints, i),
+        Token::Struct(h) => ending_at(struct_abilities(unit, handles, h), at + 3),
+        Token::StructInstantiation(h, n, first) => instantiation_abilities(
+            h,
+            ty,
+            first,
+            n,
+            unit,
+            handles,
+            constraints,
+        ),
+        Token::TypeParameter(i) => ending_at(type_parameter_abilities(constraints, i), at + 3),
     }
 }
 
 // The abilities of the struct with the n arguments at `first` of ty: its handle is looked up, then theirs, and only then are the lengths
-// compared.
+// compared. It ends where the last argument does.
 fn instantiation_abilities(
     h: StructHandleIndex,
     ty: &[u8],
@@ -138,21 +195,21 @@ fn instantiation_abilities(
     unit: &[u8],
     handles: &[u16],
     constraints: &[u8],
-) -> Abilities
+) -> AbilitiesTo
     requires { ⌜ TypesAt (now ty) first n ⌝ }
     requires { ⌜ HandlesAt (now unit) (now handles) ⌝ }
     requires { ⌜ n ≤ 255 ⌝ }
-    ensures { λ r. ⌜ InstantiationAt (h .0) (now (ty .entry)) first n (now (unit .entry)) (now (handles .entry)) (now (constraints .entry)) r ⌝ }
+    ensures { λ r. ⌜ InstantiationToAt (h .0) (now (ty .entry)) first n (now (unit .entry)) (now (handles .entry)) (now (constraints .entry)) r ⌝ }
 {
     match struct_handle_at(handles, h) {
         Place::At(p) => {
             let mut sets = [0u8; 255];
             match gather(ty, first, n, unit, handles, constraints, &mut sets) {
-                Gathered::All => instantiated_abilities(unit, p, &sets[..n]),
-                Gathered::Refused(status) => Abilities::Refused(status),
+                Gathered::To(end) => ending_at(instantiated_abilities(unit, p, &sets[..n]), end),
+                Gathered::Refused(status) => AbilitiesTo::Refused(status),
             }
         }
-        Place::OutOfTable => Abilities::Refused(StatusCode::OUT_OF_TABLE),
+        Place::OutOfTable => AbilitiesTo::Refused(StatusCode::OUT_OF_TABLE),
     }
 }
 
@@ -174,7 +231,7 @@ pub fn materialized_abilities(
     if n == 0 {
         return struct_abilities(unit, handles, h);
     }
-    instantiation_abilities(h, ty, first, n, unit, handles, constraints)
+    without_end(instantiation_abilities(h, ty, first, n, unit, handles, constraints))
 }
 
 // The abilities of the n types at `at`, left to right, to the front of `sets`; the first refusal ends the walk.
@@ -195,16 +252,16 @@ fn gather(
     let mut p = at;
     let mut i = 0;
     while i < n {
-        match abilities(ty, p, unit, handles, constraints) {
-            Abilities::Found(set) => {
+        match abilities_to(ty, p, unit, handles, constraints) {
+            AbilitiesTo::Found(set, end) => {
                 sets[i] = set.0;
+                p = end;
             }
-            Abilities::Refused(status) => {
+            AbilitiesTo::Refused(status) => {
                 return Gathered::Refused(status);
             }
         }
-        p = signature_token::end_of_type(ty, p);
         i += 1;
     }
-    Gathered::All
+    Gathered::To(p)
 }

@@ -9,4 +9,5 @@ materialized-abilities-spec = tie.close (tie.spec
     (λ c κs. search needs)
     (λ c. plain-made (c .before .if1 .taken) (c .struct-abilities .ensures))
     (λ c κs. search needs)
-    (λ c. generic-made (c .before .if1 .left) (c .instantiation-abilities .ensures)))
+    (λ c κs. search needs)
+    (λ c. rw (c .without-end .ensures) (generic-made (c .before .before .if1 .left) (c .before .instantiation-abilities .ensures .answer))))
