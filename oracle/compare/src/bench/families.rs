@@ -23,6 +23,7 @@ pub fn families() -> Vec<Family> {
         family("largest", generated::largest()),
         family("3,000 CallGeneric of 64 types", vec![calls()]),
         family("10,000 CopyLoc of the last of 200 locals", vec![copies()]),
+        family("500 CopyLoc and Pop of a struct of 32 levels", vec![deep_copies()]),
         lent("21,000 entries by VecUnpack, area 65,535", LONGEST_AREA, vec![unpacks()]),
         family("3,000 blocks that all overlap", vec![overlapping()]),
         family("2,000 Call of u64 to u64", vec![short_calls()]),
@@ -77,6 +78,20 @@ fn copies() -> Unit {
     let mut code = [indexed(Opcode::CopyLoc, 199), plain(Opcode::Pop)].repeat(10_000);
     code.push(plain(Opcode::Ret));
     in_one_block(with_local_types(locals), code)
+}
+
+/// A struct of 15,142 bytes, copied and popped: 29 structs of one argument around one of 58, each of them a struct of 255
+/// u8. A search for its abilities that passed each argument a second time would pass most of those bytes 31 times more.
+fn deep_copies() -> Unit {
+    let leaves = Type::StructInstantiation(0, vec![Type::U8; 255]);
+    let wide = Type::StructInstantiation(1, vec![leaves; 58]);
+    let deep = (0..29).fold(wide, |inside, _| Type::StructInstantiation(2, vec![inside]));
+    let copied_and_dropped = |parameters| StructHandle { abilities: 3, phantom: vec![false; parameters] };
+    let mut tables = with_local_types(vec![deep]);
+    tables.struct_handles = [255, 58, 1].map(copied_and_dropped).to_vec();
+    let mut code = [indexed(Opcode::CopyLoc, 0), plain(Opcode::Pop)].repeat(500);
+    code.push(plain(Opcode::Ret));
+    in_one_block(tables, code)
 }
 
 /// A vector of u8 taken apart and put together again: 21,000 entries weigh 63,000.
