@@ -128,3 +128,14 @@ fn the_deepest_types_fit_in_the_stack_that_is_asked_for() {
     let thread = std::thread::Builder::new().stack_size(256 * 1024).spawn(calls).expect("a thread");
     thread.join().expect("no call failed");
 }
+
+extern "C" {
+    fn wavgrut_both(unit: *const u8, unit_len: usize, area: *mut u8, area_len: usize) -> u64;
+}
+
+#[test]
+fn a_pointer_to_nothing_may_be_null() {
+    // SAFETY: include/wavgrut.h: a pointer whose length is 0 is never followed.
+    let verdict = unsafe { wavgrut_both(std::ptr::null(), 0, std::ptr::null_mut(), 0) };
+    assert_eq!(verdict, 2 | (u64::from(b'b') << 8), "2 b 0: the unit ends before its head");
+}

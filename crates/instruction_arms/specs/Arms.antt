@@ -1,6 +1,6 @@
--- Which opcodes each arm stands for, and what is left to the last arm of a `match` over single values.
+-- Which opcodes each arm stands for, and what the single values of a `match` leave to its ranges and its last arm.
 use mathlib.Core.Path.{_≡_}
-use Prim.Native.Nat.{ℕ, zero, suc, _+_, _≤_}
+use Prim.Native.Nat.{ℕ, zero, suc, _+_, _≤_, _<_}
 use native.Mathlib.Omega.{arith}
 use Rattle.instruction_arms.specs.declared.Arm.{Arm}
 
@@ -40,12 +40,31 @@ pub record InArm (arm : Arm) (opcode : ℕ) : Type 0 where
   pub from : opcodes arm .0 ≤ opcode
   pub to : opcode ≤ opcodes arm .1
 
--- k is none of the n numbers from lo on, as the rest of a `match` says it: the first innermost
-abbrev pub NoneOf : ℕ → ℕ → ℕ → Type 0
-NoneOf lo zero k = Unit {0}
-NoneOf lo (suc n) k = NoneOf lo n k × (k ≡ lo + n → ⊥)
+-- B, and k is none of the n numbers from lo on, as the rest of a `match` says it: the first innermost
+abbrev pub NoneOf : Type 0 → ℕ → ℕ → ℕ → Type 0
+NoneOf B lo zero k = B
+NoneOf B lo (suc n) k = NoneOf B lo n k × (k ≡ lo + n → ⊥)
 
--- so a number that is at least lo is past them
-pub past : (lo n k : ℕ) → lo ≤ k → NoneOf lo n k → lo + n ≤ k
-past lo zero k h z = omega arith
-past lo (suc n) k h z = omega (arith, past lo n k h (z .0), z .1)
+module _ (B : Type 0) (lo : ℕ) where
+  pub innermost : (n k : ℕ) → NoneOf B lo n k → B
+  innermost zero k z = z
+  innermost (suc n) k z = innermost n k (z .0)
+
+  -- a number that is at least lo is past them
+  pub past : (n k : ℕ) → lo ≤ k → NoneOf B lo n k → lo + n ≤ k
+  past zero k h z = omega arith
+  past (suc n) k h z = omega (arith, past n k h (z .0), z .1)
+
+-- what the opcodes with a line of their own leave: the two ranges, and the last opcode
+abbrev Left : ℕ → Type 0
+Left k = NoneOf (NoneOf (NoneOf (Unit {0}) 0 36 k) 44 5 k) 53 17 k
+
+module _ (k : ℕ) (rest : Left k) where
+  pub left-arithmetic : k < 44 → InArm Arm.Arithmetic k
+  left-arithmetic l = record { from = past _ 0 36 k (omega arith) (innermost _ 44 5 k (innermost _ 53 17 k rest)); to = omega arith }
+
+  pub left-comparison : 44 ≤ k → k < 53 → InArm Arm.Comparison k
+  left-comparison f l = record { from = past _ 44 5 k f (innermost _ 53 17 k rest); to = omega arith }
+
+  pub left-vector : 53 ≤ k → k < 71 → InArm Arm.Vector k
+  left-vector f l = let h = past _ 53 17 k f rest in record { from = omega arith; to = omega arith }

@@ -36,8 +36,8 @@ pub enum Arm {
     Vector, // VecPack to VecSwap
 }
 
-// The arm of an opcode. The compiler makes a table of a match of single values, and one jump of it and the decision over the arm; lists or ranges of
-// values become comparisons, which the processor foresees badly.
+// The arm of an opcode. The compiler makes one jump of the single values here and the decision over their arms; a range becomes comparisons,
+// which the processor foresees badly, so that only the two families of the most opcodes are ranges.
 pub fn arm_of(opcode: u8) -> Arm
     requires { ⌜ opcode < 71 ⌝ }
     ensures { λ r. ⌜ InArm r opcode ⌝ }
@@ -79,23 +79,13 @@ pub fn arm_of(opcode: u8) -> Arm
         33 => Arm::BorrowGlobal, // MutBorrowGlobalGeneric
         34 => Arm::BorrowGlobal, // ImmBorrowGlobal
         35 => Arm::BorrowGlobal, // ImmBorrowGlobalGeneric
-        36 => Arm::Arithmetic, // Add
-        37 => Arm::Arithmetic, // Sub
-        38 => Arm::Arithmetic, // Mul
-        39 => Arm::Arithmetic, // Mod
-        40 => Arm::Arithmetic, // Div
-        41 => Arm::Arithmetic, // BitOr
-        42 => Arm::Arithmetic, // BitAnd
-        43 => Arm::Arithmetic, // Xor
+        36..=43 => Arm::Arithmetic, // Add to Xor
         44 => Arm::Logical, // Or
         45 => Arm::Logical, // And
         46 => Arm::Not, // Not
         47 => Arm::Equality, // Eq
         48 => Arm::Equality, // Neq
-        49 => Arm::Comparison, // Lt
-        50 => Arm::Comparison, // Gt
-        51 => Arm::Comparison, // Le
-        52 => Arm::Comparison, // Ge
+        49..=52 => Arm::Comparison, // Lt, Gt, Le, Ge
         53 => Arm::Abort, // Abort
         54 => Arm::Nop, // Nop
         55 => Arm::Resource, // Exists

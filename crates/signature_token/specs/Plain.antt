@@ -72,3 +72,22 @@ module _ {s : List ℕ} {at : ℕ} (p : TypeAt s at) where
   plain-ends zero width e f k = omega (arith, plain-here p (rw (add-zero at) at f) k)
   plain-ends (suc zero) width e f k = let i = behind (sym e) in omega (arith, plain-here (i .inner) f k, i .long)
   plain-ends (suc (suc w)) width e f k = absurd (omega (arith, around-most (opened (getD s at 0))))
+
+-- a command below a vector's is a leaf's
+pub leaf-ends : {s : List ℕ} {at : ℕ} → getD s at 0 < 7 → EndOfType s at (at + 1)
+unfolding encode
+leaf-ends {s} {at} h p = go (p .type) (p .stands)
+  where
+    go : (t : SignatureToken) → At s at (encode t) → at + 1 ≡ at + length (encode t)
+    go Bool′ k = refl
+    go U8 k = refl
+    go U64 k = refl
+    go U128 k = refl
+    go Address k = refl
+    go Signer k = refl
+    go (Vector t) k = absurd (omega (arith, at-byte k))
+    go (Struct i) k = absurd (omega (arith, at-byte k))
+    go (StructInstantiation i ts) k = absurd (omega (arith, at-byte k))
+    go (Reference t) k = absurd (omega (arith, at-byte k))
+    go (MutableReference t) k = absurd (omega (arith, at-byte k))
+    go (TypeParameter i) k = absurd (omega (arith, at-byte k))

@@ -119,11 +119,15 @@ fn plain_end(s: &[u8], at: usize) -> usize
     p + width
 }
 
-// The end of the type at `at`. Most types are plain or wrapped once: only the others are walked.
+// The end of the type at `at`. Leaves are told by one decision, since in code that repeats itself that is foreseen; the others that are plain or
+// wrapped once by sums; and only what is left is walked.
 pub fn end_of_type(s: &[u8], at: usize) -> usize
     requires { ⌜ TypeAt (now s) at ⌝ }
     ensures { λ r. ⌜ EndOfType (now (s .entry)) at r ⌝ }
 {
+    if s[at] < VECTOR {
+        return at + 1;
+    }
     let end = plain_end(s, at);
     if 0 < end {
         return end;

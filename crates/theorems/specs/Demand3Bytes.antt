@@ -54,27 +54,26 @@ module _ (s : List ℕ) where
   accepts : (judge : CompiledUnit → Verdict) → Judged IsAccepted judge → (d : Decoded) (e : ℕ) → readUnit s ≡ read d e → judge (compiledUnit d) ≡ Accepted
   accepts judge j d e k = let same : j .decoded ≡ d = cc in rw same at (j .holds)
 
-  module _ (area : ℕ) where
-    -- what is accepted was read
-    pub accepted-reads : stackUsageVerdict s area ≡ Accepted → (d : Decoded) × (e : ℕ) × (readUnit s ≡ read d e)
-    unfolding stackUsageVerdict
-    accepted-reads v = let j = accepted area _ v in (j .decoded, j .ends, j .reads)
+  -- both passes accepted the bytes with an area of that length: in two calls, of which stack usage's may have been lent any area, or in one
+  pub data BothAccepted (area : ℕ) : Type 0 where
+    in-two : (area₁ : ℕ) → stackUsageVerdict s area₁ ≡ Accepted → typesVerdict s area ≡ Accepted → BothAccepted area
+    in-one : bothVerdict s area ≡ Accepted → BothAccepted area
 
-    pub accepted-reads-both : bothVerdict s area ≡ Accepted → (d : Decoded) × (e : ℕ) × (readUnit s ≡ read d e)
-    unfolding bothVerdict
-    accepted-reads-both v = let j = accepted area _ v in (j .decoded, j .ends, j .reads)
+  -- the bytes are a unit, and every list of its listed blocks is walked with no refusal and with an empty stack after each block
+  pub record WalksClean (area : ℕ) : Type 0 where
+    pub decoded : Decoded
+    pub ends : ℕ
+    pub reads : readUnit s ≡ read decoded ends
+    pub walks : (bs : List Block) → Listed (compiledUnit decoded) bs → Clean (compiledUnit decoded) area bs []
 
-    -- what two calls accepted, walked in any order of listed blocks
-    pub demand3-bytes : stackUsageVerdict s area ≡ Accepted → typesVerdict s area ≡ Accepted →
-        (d : Decoded) (e : ℕ) → readUnit s ≡ read d e → (bs : List Block) → Listed (compiledUnit d) bs → Clean (compiledUnit d) area bs []
-    unfolding stackUsageVerdict typesVerdict
-    demand3-bytes v v′ d e k = demand3 _ area (accepts _ (accepted area _ v) d e k) (accepts _ (accepted area _ v′) d e k)
-
-    -- what one call accepted
-    pub demand3-bytes-both : bothVerdict s area ≡ Accepted →
-        (d : Decoded) (e : ℕ) → readUnit s ≡ read d e → (bs : List Block) → Listed (compiledUnit d) bs → Clean (compiledUnit d) area bs []
-    unfolding bothVerdict
-    demand3-bytes-both v d e k = demand3-both _ area (accepts _ (accepted area _ v) d e k)
+  walks-clean : (area : ℕ) → BothAccepted area → WalksClean area
+  unfolding stackUsageVerdict typesVerdict bothVerdict
+  walks-clean area (in-two area₁ v v′) =
+      let j = accepted area₁ _ v in
+      record { decoded = j .decoded; ends = j .ends; reads = j .reads; walks = demand3 _ area (j .holds) (accepts _ (accepted area _ v′) _ _ (j .reads)) }
+  walks-clean area (in-one v) =
+      let j = accepted area _ v in
+      record { decoded = j .decoded; ends = j .ends; reads = j .reads; walks = demand3-both _ area (j .holds) }
 
   -- ── never EMPTY_STACK ──
 
@@ -84,26 +83,24 @@ module _ (s : List ℕ) where
   emptied : (area : ℕ) (judge : CompiledUnit → Verdict) → numberOf (reading s area judge) ≡ 10 → Judged IsEmptyStack judge
   emptied area judge v = judged area IsEmptyStack judge (λ e. omega arith) (λ w p k e. omega (arith, readUnit-stops s w p k .1)) v
 
-  -- of what one call's stack usage accepted, another's type pass never says EMPTY_STACK, whatever area each was lent
-  pub neverEmptyStack-bytes : (area₁ area₂ : ℕ) → stackUsageVerdict s area₁ ≡ Accepted → numberOf (typesVerdict s area₂) ≡ 10 → ⊥
+  never-empty : (area₁ area₂ : ℕ) → stackUsageVerdict s area₁ ≡ Accepted → numberOf (typesVerdict s area₂) ≡ 10 → ⊥
   unfolding stackUsageVerdict typesVerdict
-  neverEmptyStack-bytes area₁ area₂ v v′ =
+  never-empty area₁ area₂ v v′ =
       let j = emptied area₂ _ v′ in
       neverEmptyStack (compiledUnit (j .decoded)) area₂ (accepts _ (accepted area₁ _ v) (j .decoded) (j .ends) (j .reads)) (j .holds)
 
-  -- nor does the call that runs both passes
-  pub bothNeverEmptyStack : (area : ℕ) → numberOf (bothVerdict s area) ≡ 10 → ⊥
+  both-never-empty : (area : ℕ) → numberOf (bothVerdict s area) ≡ 10 → ⊥
   unfolding bothVerdict
-  bothNeverEmptyStack area v = let j = emptied area _ v in neverEmptyStack-both (compiledUnit (j .decoded)) area (j .holds)
+  both-never-empty area v = let j = emptied area _ v in neverEmptyStack-both (compiledUnit (j .decoded)) area (j .holds)
 
-  -- ── demand 3 whole ──
+  -- ── the theorem ──
 
-  -- of bytes that the call of stack usage accepted, whatever area that call and the call of types were lent
-  pub demand3-bytes-whole : (area₁ : ℕ) → stackUsageVerdict s area₁ ≡ Accepted →
-      ((area₂ : ℕ) → numberOf (typesVerdict s area₂) ≡ 10 → ⊥) ×
-      ((area₂ : ℕ) → typesVerdict s area₂ ≡ Accepted → (d : Decoded) (e : ℕ) → readUnit s ≡ read d e → (bs : List Block) → Listed (compiledUnit d) bs → Clean (compiledUnit d) area₂ bs [])
-  unfolding stackUsageVerdict typesVerdict
-  demand3-bytes-whole area₁ v = (
-    λ area₂. neverEmptyStack-bytes area₁ area₂ v,
-    λ area₂ v′ d e k. demand3 _ area₂ (accepts _ (accepted area₁ _ v) d e k) (accepts _ (accepted area₂ _ v′) d e k),
-  )
+  -- Demand 3 of the bytes s. What both passes accepted walks clean; what stack usage accepted in one call, the type pass of another never refuses
+  -- with EMPTY_STACK, whatever area each was lent; nor does the call that runs both.
+  pub record Demand3 : Type 0 where
+    pub clean : (area : ℕ) → BothAccepted area → WalksClean area
+    pub never : (area₁ area₂ : ℕ) → stackUsageVerdict s area₁ ≡ Accepted → numberOf (typesVerdict s area₂) ≡ 10 → ⊥
+    pub nor-both : (area : ℕ) → numberOf (bothVerdict s area) ≡ 10 → ⊥
+
+  pub demand3-bytes : Demand3
+  demand3-bytes = record { clean = walks-clean; never = never-empty; nor-both = both-never-empty }

@@ -17,6 +17,7 @@ pub mod ReadUnit
 pub mod Nesting
 pub mod Statuses
 pub mod Demand3
+pub mod Clean
 pub mod Demand3Bytes
 pub mod CallNumbers
 pub mod Blank

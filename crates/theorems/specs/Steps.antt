@@ -11,7 +11,7 @@ use Rattle.status.specs.declared.StatusCode.{StatusCode}
 use Rattle.status.specs.declared.StatusCode.the-variants.{«BORROWFIELD_TYPE_MISMATCH_ERROR», «BORROWFIELD_BAD_FIELD_ERROR», «TYPE_MISMATCH», «FREEZEREF_TYPE_MISMATCH_ERROR», «READREF_TYPE_MISMATCH_ERROR», «WRITEREF_NO_MUTABLE_REFERENCE_ERROR»}
 use Rattle.status.specs.Verdict.{statusNumber}
 use Rattle.definitions.specs.Result.{Result, ok, _>>?_}
-use Rattle.definitions.specs.SignatureToken.{SignatureToken, Signature}
+use Rattle.definitions.specs.SignatureToken.{SignatureToken, Signature, U64}
 use Rattle.definitions.specs.Bytecode.{Bytecode, Pop, Ret, BrTrue, BrFalse, Branch, LdU8, LdU64, LdU128, CastU8, CastU64, CastU128, LdConst, LdTrue, LdFalse, CopyLoc, MoveLoc, StLoc, Call, CallGeneric, Pack, PackGeneric, Unpack, UnpackGeneric, ReadRef, WriteRef, FreezeRef, MutBorrowLoc, ImmBorrowLoc, MutBorrowField, MutBorrowFieldGeneric, ImmBorrowField, ImmBorrowFieldGeneric, MutBorrowGlobal, MutBorrowGlobalGeneric, ImmBorrowGlobal, ImmBorrowGlobalGeneric, Add, Sub, Mul, Mod, Div, BitOr, BitAnd, Xor, Or, And, Not, Eq, Neq, Lt, Gt, Le, Ge, Abort, Nop, Exists, ExistsGeneric, MoveFrom, MoveFromGeneric, MoveTo, MoveToGeneric, Shl, Shr, VecPack, VecLen, VecImmBorrow, VecMutBorrow, VecPushBack, VecPopBack, VecUnpack, VecSwap}
 use Rattle.definitions.specs.CompiledUnit.{CompiledUnit, FunctionHandle, StructFieldInformation, Declared, StructWith, signatureAt, functionHandleAt, structDefAt, structInstantiationAt, plainStruct, genericStruct}
 use Rattle.definitions.specs.Substitution.{instantiateEach, inner, mutableInner, getVectorElementType}
@@ -106,7 +106,7 @@ module _ (u : CompiledUnit) {I : SignatureToken → Type 0} (k : Kept u I) where
 
   sound-call : (h : FunctionHandle) {σ : Signature} → TypeArgs u σ → WithinEffect I (callEffect u h) (call u h σ)
   unfolding callEffect call
-  sound-call h {σ} args = shared (only-signature u _) λ ps _. chosen (only-signature u _) [] _ λ rs agrees.
+  sound-call h {σ} args = shared (only-signature u _) λ ps _. chosen (only-signature u _) [] (U64 ∷ []) _ (λ e. omega arith) λ rs agrees.
       counted (omega (arith, length-reverse ps)) refl
       (then (sound-popEach _ tt _ (only-instantiate σ tt) (reverse ps)) λ _. looking (tabled (only-signature u _)) λ rs′ ers.
       counted refl (ap length (agrees rs′ ers)) (sound-pushEach _ rs′ (only-instantiate σ tt) λ a b m e. k .made (instantiated args (signature _ ers m) e)))
@@ -129,13 +129,13 @@ module _ (u : CompiledUnit) {I : SignatureToken → Type 0} (k : Kept u I) where
     module _ {count : Result ℕ} (counts : (s : StructWith) → found ≡ ok s → count ≡ countOf s) (only-count : Tabled count) where
       sound-pack : WithinEffect I (count >>? λ n. n ⇒ 1) (pack found)
       unfolding pack
-      sound-pack = chosen only-count 0 _ λ n agrees. looking (tabled only) λ s es. looking (only-fields s) λ ts ets.
+      sound-pack = chosen only-count 0 1 _ (λ e. omega arith) λ n agrees. looking (tabled only) λ s es. looking (only-fields s) λ ts ets.
           counted (omega (arith, length-reverse ts, fields-length s ts ets, agrees _ (counts s es))) refl
           (then (sound-popEach _ tt _ (λ t. only-ok) (reverse ts)) λ _. pushing _ (k .made (struct (names s es))))
 
       sound-unpack : WithinEffect I (count >>? λ n. 1 ⇒ n) (unpack found)
       unfolding unpack
-      sound-unpack = chosen only-count 0 _ λ n agrees. looking (tabled only) λ s es. then (sound-popExpecting _ _ tt) λ _.
+      sound-unpack = chosen only-count 0 1 _ (λ e. omega arith) λ n agrees. looking (tabled only) λ s es. then (sound-popExpecting _ _ tt) λ _.
           looking (only-fields s) λ ts ets. counted refl (fields-length s ts ets ∙ agrees _ (counts s es))
           (sound-pushEach ok ts (λ t. only-ok) λ a b m e. k .made (rw (ok-same refl e) at (all-member (fields-made u s (names s es) ts ets) m)))
 

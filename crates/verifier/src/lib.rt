@@ -33,15 +33,20 @@ fn clear(area: &mut [u8])
     }
 }
 
-// Stack usage, and then types where it accepts.
+// Stack usage, and then types where it accepts. Types is walked first: where that walk is clean, stack usage accepts too, which is proved
+// (theorems, specs/Clean), and need not be run. Where it is not, stack usage decides whether the verdict of types counts.
 fn verify_passes(area: &mut [u8], s: &[u8], index: &[u16], view: View) -> Verdict
     requires { ⌜ length (now area) ≤ 65535 ⌝ }
     requires { ⌜ UnitRead (now s) (now index) view ⌝ }
     ensures { λ r. ⌜ ((p : UnitRead (now (s .entry)) (now (index .entry)) view) → r ≡ bothPasses (compiledUnit (p .decoded)) (length (now (area .entry)))) ⌝ }
 {
+    let types = type_safety::verify(area, s, index, view);
+    if types.clean {
+        return Verdict::Accepted;
+    }
     match stack_usage_verifier::verify(s, index, view) {
         Verdict::Refused(status, position) => Verdict::Refused(status, position),
-        Verdict::Accepted => type_safety::verify(area, s, index, view),
+        Verdict::Accepted => types.verdict,
     }
 }
 
@@ -56,7 +61,10 @@ fn judge_in(s: &[u8], area: &mut [u8], index: &mut [u16], passes: Passes) -> Ver
         ReadUnit::Unit(view) => match passes {
             Passes::None => Verdict::Accepted,
             Passes::StackUsage => stack_usage_verifier::verify(s, index, view),
-            Passes::Types => type_safety::verify(area, s, index, view),
+            Passes::Types => {
+                let types = type_safety::verify(area, s, index, view);
+                types.verdict
+            }
             Passes::Both => verify_passes(area, s, index, view),
         },
     }

@@ -1,6 +1,5 @@
--- A single value's arm is known by the value; to the last one are left the values past all of those.
-use native.Mathlib.Omega.{arith}
-use Rattle.instruction_arms.specs.Arms.{past}
+-- A single value's arm is known by the value; to the ranges and the last one are left the values between and past those.
+use Rattle.instruction_arms.specs.Arms.{left-arithmetic, left-comparison, left-vector}
 use borrow.Author.Needs.{needs}
 use Rattle.instruction_arms.proofs.arm_of.Statement.{statement}
 use Rattle.instruction_arms.proofs.arm_of.Tie as tie
@@ -67,16 +66,6 @@ arm-of-spec =
     (λ c. search needs)
     (λ c. search needs)
     (λ c. search needs)
-    (λ c. search needs)
-    (λ c. search needs)
-    (λ c. search needs)
-    (λ c. search needs)
-    (λ c. search needs)
-    (λ c. search needs)
-    (λ c. search needs)
-    (λ c. search needs)
-    (λ c. search needs)
-    (λ c. search needs)
-    (λ c. search needs)
-    (λ c. search needs)
-    (λ c. search (needs, past 0 70 _ (omega arith) (c .match .rest))))
+    (λ c. left-arithmetic _ (c .before .match .rest) (c .if1 .taken))
+    (λ c. left-comparison _ (c .before .before .match .rest) (c .before .if1 .left) (c .if2 .taken))
+    (λ c. left-vector _ (c .before .before .match .rest) (c .if2 .left) (c .before .before .before .pre)))

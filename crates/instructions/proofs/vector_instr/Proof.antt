@@ -38,4 +38,4 @@ vector-instr-spec =
     (λ c. search needs)
     (λ c p. let arm = c .before .before in
     let start = arm .before .before .before .before in
-    key-does 70 (omega (arith, start .pre .1 .1 .to, past 63 7 _ (start .pre .1 .1 .from) (arm .match .rest))) (c .vec-swap .ensures p)))
+    key-does 70 (omega (arith, start .pre .1 .1 .to, past (Unit {0}) 63 7 _ (start .pre .1 .1 .from) (arm .match .rest))) (c .vec-swap .ensures p)))

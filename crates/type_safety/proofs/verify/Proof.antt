@@ -1,9 +1,7 @@
--- The places of the parameters' and the locals' types are found, and the walk over the blocks is the verdict.
-use mathlib.Core.Path.{sym, _∙_}
-use native.Mathlib.Omega.{arith}
+-- The places of the parameters' and the locals' types are found, and the walk over the blocks is the answer.
+use mathlib.Core.Path.{sym}
 use lib.Seq.{length-take-le}
 use borrow.Author.Needs.{needs}
-use Rattle.type_safety.specs.Walks.{near-offset, verdict-is}
 use Rattle.type_safety.proofs.verify.Statement.{statement}
 use Rattle.type_safety.proofs.verify.Tie as tie
 
@@ -34,12 +32,4 @@ verify-spec =
       ),
     ))
     (λ c. search needs)
-    (λ c. search needs)
-    (λ c. let start = c .before .before .before .before .before .before .before .before .before .before .before .before .before .before .before .before .before .before in
-    omega (arith, near-offset (c .before .before .before .before .before .verify-blocks .ensures (start .pre .1)) (c .before .status .given .1)))
-    (λ c κs. search needs)
-    (λ c. search needs)
-    (λ c p. verdict-is _ (c .before .before .before .before .verify-blocks .ensures p) (c .enum-told .given .1))
-    (λ c. search needs)
-    (λ c p. let status = c .before .before in
-    c .refusal-at .ensures ∙ verdict-is _ (status .before .before .before .before .verify-blocks .ensures p) (status .status .given .1)))
+    (λ c p. c .before .before .verify-blocks .ensures p))

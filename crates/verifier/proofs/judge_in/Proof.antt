@@ -58,7 +58,7 @@ judge-in-spec =
     (λ c. let told = c .before .before .before .before .before in
     let view = told .before .before .before in
     let u = unit view in
-    judged-reading _ u Passes.Types (told .enum-told3 .given .1) _ (c .before .before .verify2 .ensures u))
+    judged-reading _ u Passes.Types (told .enum-told3 .given .1) _ (c .before .before .verify2 .ensures u .verdict))
     (λ c. search needs)
     (λ c. search needs)
     (λ c. let told = c .before .before .before .before .before in

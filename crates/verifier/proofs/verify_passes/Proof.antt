@@ -1,4 +1,6 @@
--- A refusal of stack usage is the verdict; where it accepts, that of types is.
+-- A clean walk is the verdict of both passes. Else a refusal of stack usage is the verdict; where it accepts, that of types is.
+use mathlib.Core.Path.{sym}
+use Rattle.theorems.specs.Clean.{clean-both}
 use Rattle.verifier.proofs.Calls.{usage-refused, usage-accepted}
 use borrow.Author.Needs.{needs}
 use Rattle.verifier.proofs.verify_passes.Statement.{statement}
@@ -10,9 +12,12 @@ verify-passes-spec =
     (tie.spec
     (λ c κs. search needs)
     (λ c. search needs)
-    (λ c. search needs)
+    (λ c p. let start = c .before .before .before .before .before .before .before .before in
+    sym (clean-both _ _ (start .pre .0) (c .before .before .before .verify .ensures p .clean (c .if1 .taken))))
     (λ c κs. search needs)
-    (λ c p. usage-refused _ _ (c .before .before .before .verify .ensures p) (c .before .status .given .1))
     (λ c. search needs)
-    (λ c p. let told = c .before .before .before .before in
-    usage-accepted _ _ (told .before .before .verify .ensures p) (told .enum-told .given .1) (c .before .before .verify2 .ensures p)))
+    (λ c. search needs)
+    (λ c. search needs)
+    (λ c p. usage-refused _ _ (c .before .before .before .verify2 .ensures p) (c .before .status .given .1))
+    (λ c. search needs)
+    (λ c p. usage-accepted _ _ (c .before .before .verify2 .ensures p) (c .enum-told .given .1) (c .before .before .before .before .before .before .verify .ensures p .verdict)))
