@@ -82,10 +82,10 @@ fn type_shape(command: u8) -> TypeShape
 fn plain_end(s: &[u8], at: usize, levels: u8) -> usize
     ensures { λ r. ⌜ PlainEnd (now (s .entry)) at levels r ⌝ }
 {
-    if s.len() < 5 {
+    if s.len() <= at {
         return 0;
     }
-    if s.len() - 4 <= at {
+    if s.len() - at < 5 {
         return 0;
     }
     if levels < 2 {
