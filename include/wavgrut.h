@@ -38,7 +38,7 @@ uint64_t wavgrut_stack_usage(const uint8_t *unit, size_t unit_len, uint8_t *area
 /* "types": reads the unit, then runs that pass. */
 uint64_t wavgrut_types(const uint8_t *unit, size_t unit_len, uint8_t *area, size_t area_len);
 
-/* "both": reads the unit, then stack usage, and then types where stack usage accepts. */
+/* "both": reads the unit; the verdict is that of stack usage where it refuses, else that of types. */
 uint64_t wavgrut_both(const uint8_t *unit, size_t unit_len, uint8_t *area, size_t area_len);
 
 /* The answer's parts. Bits 32 to 63 are 0.

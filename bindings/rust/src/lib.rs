@@ -58,7 +58,7 @@ pub fn types(unit: &[u8], area: &mut [u8]) -> Verdict {
     call(linked::wavgrut_types, unit, area)
 }
 
-/// "both": reads the unit, then stack usage, and then types where stack usage accepts.
+/// "both": reads the unit; the verdict is that of stack usage where it refuses, else that of types.
 pub fn both(unit: &[u8], area: &mut [u8]) -> Verdict {
     call(linked::wavgrut_both, unit, area)
 }
