@@ -1,5 +1,7 @@
 // A unit's struct handles, and the abilities of a type and of a struct in the unit: by the handles, and by the constraints of the function's type
 // parameters.
+#![tactic(auto)]
+
 ghost use Rattle.definitions.specs.CompiledUnit as defs;
 ghost use Rattle.definitions.specs.Places.{TypeAt};
 ghost use Rattle.definitions.specs.Reader.{compiled_unit};
@@ -15,7 +17,7 @@ use status::StatusCode;
 use unit::View;
 
 // A struct's declared abilities, and its type parameters: `count` bytes at `parameters`, 1 where one is phantom.
-#[derive(Drop)]
+#[derive(Clone, Copy)]
 pub struct StructHandle {
     pub abilities: AbilitySet,
     pub parameters: usize,
@@ -24,14 +26,14 @@ pub struct StructHandle {
 
 // What the abilities of a type depend on: the first so many entries of the index are the struct handles, and the constraints of the
 // function's type parameters stand from one place to another.
-#[derive(Drop)]
+#[derive(Clone, Copy)]
 struct AbilityContext {
     struct_handles: usize,
     from: usize,
     to: usize,
 }
 
-#[derive(Drop)]
+#[derive(Clone, Copy)]
 pub enum StructHandleResult {
     Found(StructHandle),
     Refused(StatusCode),

@@ -1,5 +1,7 @@
 // The abilities of a type, over its bytes and those of a unit that was read, beside `BinaryIndexedView::abilities` of binary_views.rs.
 // A struct handle is found by its place in the unit, which the reader noted, and not by a walk over the table.
+#![tactic(auto)]
+
 ghost use Rattle.std.specs.Prelude.{◌≡◌, ◌≤◌, length};
 ghost use Rattle.definitions.specs.Result.{at};
 ghost use Rattle.definitions.specs.Places.{TypeAt, TypesAt};
@@ -14,21 +16,21 @@ use signature_token::{Token, Wrapper};
 use status::StatusCode;
 
 // Where a record stands, by the place of its command; or its index is past the table.
-#[derive(Drop)]
+#[derive(Clone, Copy)]
 enum Place {
     At(usize),
     OutOfTable,
 }
 
 // A type's abilities and where the type ends, so that a walk along types goes on from there; or the status of a refusal.
-#[derive(Drop)]
+#[derive(Clone, Copy)]
 enum AbilitiesTo {
     Found(AbilitySet, usize),
     Refused(StatusCode),
 }
 
 // All sets were gathered, with where the last of the types ends; or one of the types has none.
-#[derive(Drop)]
+#[derive(Clone, Copy)]
 enum Gathered {
     To(usize),
     Refused(StatusCode),

@@ -1,4 +1,6 @@
 // Parts of two slices of bytes: one copied into the other, or compared with it.
+#![tactic(auto)]
+
 ghost use Rattle.std.specs.Prelude.{length};
 ghost use Rattle.byte_parts.specs.Bytes.{Fits, Copied, SameBytes};
 

@@ -1,4 +1,6 @@
 // The steps of type_safety.rs that call a function: `call`, and Call and CallGeneric above it.
+#![tactic(auto)]
+
 ghost use Rattle.definitions.specs.Reader.{compiled_unit};
 ghost use Rattle.definitions.specs.TypeSafety as step;
 ghost use Rattle.substitution.specs.Instantiate.{Arguments};

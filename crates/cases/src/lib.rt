@@ -1,6 +1,8 @@
 // Judges cases, one after the other, and writes a verdict to a line. A case is a byte for the call (0 reads the unit, 1 is stack usage, 2 is
 // types, 3 is both), the area's length and the unit's length in four bytes each, the lowest first, and the unit. The area is lent full of
 // junk. Where it is not as it is due afterwards, the line `area` follows the verdict's, so that a comparison of what is written shows it.
+#![tactic(auto)]
+
 ghost use Rattle.std.specs.Prelude.{◌≤◌, ◌<◌, length};
 
 use libc::STDOUT_FILENO;

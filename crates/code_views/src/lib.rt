@@ -1,4 +1,6 @@
 // The code of a unit that was read: `s` are its bytes, `index` and `view` say where its instructions and its listed blocks stand.
+#![tactic(auto)]
+
 ghost use Rattle.std.specs.Prelude.{◌<◌};
 ghost use Rattle.definitions.specs.Reader.{compiled_unit};
 ghost use Rattle.unit.specs.Views.{UnitRead};
@@ -8,7 +10,7 @@ use record_views::Instruction;
 use unit::View;
 
 // The first and the last instruction.
-#[derive(Drop)]
+#[derive(Clone, Copy)]
 pub struct Block {
     pub first: u16,
     pub last: u16,

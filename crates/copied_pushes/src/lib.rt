@@ -1,4 +1,6 @@
 // The pushes of a type that stands elsewhere: its bytes are copied to the stack's end, from another slice or from further up in the area.
+#![tactic(auto)]
+
 ghost use Rattle.std.specs.Prelude.{◌≡◌, ◌∷◌, ◌+◌, ◌-◌, ◌≤◌, length};
 ghost use Rattle.type_stack.specs.Spliced.{spliced, over};
 ghost use Rattle.type_stack.specs.Held.{Stacked, Part, part, entered};

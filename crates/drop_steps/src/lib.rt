@@ -1,4 +1,6 @@
 // The steps of type_safety.rs that ask whether an operand may be dropped: Pop, Eq and Neq.
+#![tactic(auto)]
+
 ghost use Rattle.definitions.specs.Reader.{compiled_unit};
 ghost use Rattle.definitions.specs.TypeSafety as step;
 ghost use Rattle.type_stack.specs.Held.{Stacked};

@@ -1,5 +1,7 @@
 // `borrow_field` of type_safety.rs, with a struct's type arguments or without. Where `&mut` is asked, an operand that is
 // none is refused before the field handle is looked up; where either reference will do, a value is refused after it.
+#![tactic(auto)]
+
 ghost use Rattle.std.specs.Prelude.{◌≤◌, length};
 ghost use Rattle.definitions.specs.Places.{TypeAt};
 ghost use Rattle.definitions.specs.Reader.{compiled_unit};
@@ -22,7 +24,7 @@ use unit::View;
 use unit_views::{SignatureResult, StructDefResult, TypeResult};
 
 // An operand as what a field is borrowed from: where the struct stands, that it is no reference, or that it is not the `&mut` asked for.
-#[derive(Drop)]
+#[derive(Clone, Copy)]
 enum Borrowed {
     Inner(usize),
     Value,
@@ -30,13 +32,13 @@ enum Borrowed {
 }
 
 // A field handle's struct definition, and the field's number in it.
-#[derive(Drop)]
+#[derive(Clone, Copy)]
 struct Owner {
     def: StructDef,
     field: u16,
 }
 
-#[derive(Drop)]
+#[derive(Clone, Copy)]
 enum OwnerResult {
     Found(Owner),
     Refused(StatusCode),

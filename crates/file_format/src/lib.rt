@@ -1,5 +1,7 @@
 // Abilities, sets of them, and the indexes into a unit's tables, beside file_format.rs. Each contract is an equation with a definition, for
 // every byte. The Rust's loop over a set's abilities is written out, since there are four.
+#![tactic(auto)]
+
 ghost use Rattle.std.specs.Prelude.{◌≡◌, [], ◌∷◌, map};
 ghost use Rattle.definitions.specs.AbilitySet.{bit, EMPTY, PRIMITIVES, REFERENCES, SIGNER, VECTOR, has_ability, union, intersect, required_by, with_required_by, required_by_any, meet_argument, polymorphic_abilities};
 ghost use Rattle.file_format.specs.AbilitySet.{ability_of, set_of, from_u8, is_phantom_byte, abilities_answer};
@@ -7,7 +9,7 @@ ghost use Rattle.file_format.specs.AbilitySet.{ability_of, set_of, from_u8, is_p
 use status::StatusCode;
 
 // What may be done with the values of a type.
-#[derive(Drop)]
+#[derive(Clone, Copy)]
 pub enum Ability {
     Copy,
     Drop,
@@ -42,18 +44,18 @@ impl Ability {
 }
 
 // A set of abilities, a bit for each.
-#[derive(Drop)]
+#[derive(Clone, Copy)]
 pub struct AbilitySet(pub u8);
 
 // What a byte is as a set: the Rust's `Option<AbilitySet>`.
-#[derive(Drop)]
+#[derive(Clone, Copy)]
 pub enum AbilitySetResult {
     Some(AbilitySet),
     None,
 }
 
 // The abilities of a type, or the status of a refusal: the Rust's `PartialVMResult<AbilitySet>`.
-#[derive(Drop)]
+#[derive(Clone, Copy)]
 pub enum Abilities {
     Found(AbilitySet),
     Refused(StatusCode),
@@ -169,33 +171,33 @@ impl AbilitySet {
 }
 
 // An index into each table of a unit. The types differ, so that one is not taken for another.
-#[derive(Drop)]
+#[derive(Clone, Copy)]
 pub struct StructHandleIndex(pub u16);
 
-#[derive(Drop)]
+#[derive(Clone, Copy)]
 pub struct FunctionHandleIndex(pub u16);
 
-#[derive(Drop)]
+#[derive(Clone, Copy)]
 pub struct FieldHandleIndex(pub u16);
 
-#[derive(Drop)]
+#[derive(Clone, Copy)]
 pub struct StructDefInstantiationIndex(pub u16);
 
-#[derive(Drop)]
+#[derive(Clone, Copy)]
 pub struct FunctionInstantiationIndex(pub u16);
 
-#[derive(Drop)]
+#[derive(Clone, Copy)]
 pub struct FieldInstantiationIndex(pub u16);
 
-#[derive(Drop)]
+#[derive(Clone, Copy)]
 pub struct ConstantPoolIndex(pub u16);
 
-#[derive(Drop)]
+#[derive(Clone, Copy)]
 pub struct SignatureIndex(pub u16);
 
-#[derive(Drop)]
+#[derive(Clone, Copy)]
 pub struct StructDefinitionIndex(pub u16);
 
 // An index into a function's parameters and locals.
-#[derive(Drop)]
+#[derive(Clone, Copy)]
 pub struct LocalIndex(pub u8);

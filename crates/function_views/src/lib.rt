@@ -1,4 +1,6 @@
 // The types of the function of a unit that was read: those of its parameters, those that it returns, and those of its other locals.
+#![tactic(auto)]
+
 ghost use Rattle.definitions.specs.Reader.{compiled_unit};
 ghost use Rattle.record_views.specs.Records.{ListIs};
 ghost use Rattle.unit.specs.Views.{UnitRead};

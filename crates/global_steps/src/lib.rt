@@ -1,5 +1,7 @@
 // The borrows of a struct in global storage of type_safety.rs, with type arguments, which are looked up first, or without: the address is popped
 // and tested, then the definition is looked up and must have key.
+#![tactic(auto)]
+
 ghost use Rattle.definitions.specs.Reader.{compiled_unit};
 ghost use Rattle.definitions.specs.TypeSafety as step;
 ghost use Rattle.record_views.specs.Records.{TypesIn};

@@ -1,5 +1,7 @@
 // Look-ups of the records that are two numbers: handles of functions and of fields, and instantiations. Beside binary_views.rs: a table that a
 // script lacks is INVALID_OPERATION_IN_SCRIPT, an index past a table OUT_OF_TABLE.
+#![tactic(auto)]
+
 ghost use Rattle.std.specs.Prelude.{◌≡◌};
 ghost use Rattle.definitions.specs.CompiledUnit as defs;
 ghost use Rattle.definitions.specs.Reader.{compiled_unit};
@@ -15,67 +17,67 @@ use status::StatusCode;
 use unit::{Head, Table, View};
 
 // The two numbers of a record, or that the index is past the table.
-#[derive(Drop)]
+#[derive(Clone, Copy)]
 enum PairAt {
     Pair(u16, u16),
     OutOfTable,
 }
 
-#[derive(Drop)]
+#[derive(Clone, Copy)]
 pub struct FunctionHandle {
     pub parameters: SignatureIndex,
     pub return_: SignatureIndex,
 }
 
-#[derive(Drop)]
+#[derive(Clone, Copy)]
 pub struct FunctionInstantiation {
     pub handle: FunctionHandleIndex,
     pub type_parameters: SignatureIndex,
 }
 
-#[derive(Drop)]
+#[derive(Clone, Copy)]
 pub struct StructDefInstantiation {
     pub def: StructDefinitionIndex,
     pub type_parameters: SignatureIndex,
 }
 
-#[derive(Drop)]
+#[derive(Clone, Copy)]
 pub struct FieldHandle {
     pub owner: StructDefinitionIndex,
     pub field: u16,
 }
 
-#[derive(Drop)]
+#[derive(Clone, Copy)]
 pub struct FieldInstantiation {
     pub handle: FieldHandleIndex,
     pub type_parameters: SignatureIndex,
 }
 
-#[derive(Drop)]
+#[derive(Clone, Copy)]
 pub enum FunctionHandleResult {
     Found(FunctionHandle),
     Refused(StatusCode),
 }
 
-#[derive(Drop)]
+#[derive(Clone, Copy)]
 pub enum FunctionInstantiationResult {
     Found(FunctionInstantiation),
     Refused(StatusCode),
 }
 
-#[derive(Drop)]
+#[derive(Clone, Copy)]
 pub enum StructInstantiationResult {
     Found(StructDefInstantiation),
     Refused(StatusCode),
 }
 
-#[derive(Drop)]
+#[derive(Clone, Copy)]
 pub enum FieldHandleResult {
     Found(FieldHandle),
     Refused(StatusCode),
 }
 
-#[derive(Drop)]
+#[derive(Clone, Copy)]
 pub enum FieldInstantiationResult {
     Found(FieldInstantiation),
     Refused(StatusCode),

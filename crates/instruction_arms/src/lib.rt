@@ -1,10 +1,12 @@
 // The arms of `verify_instr` of type_safety.rs: which step an opcode's instruction takes. Opcodes that share a step share an arm, and so do those of a
 // family that a small function of crate instructions tells apart.
+#![tactic(auto)]
+
 ghost use Rattle.std.specs.Prelude.{◌<◌};
 ghost use Rattle.instruction_arms.specs.Arms.{InArm};
 
 // An arm that stands for several opcodes names them.
-#[derive(Drop)]
+#[derive(Clone, Copy)]
 pub enum Arm {
     Pop,
     Ret,

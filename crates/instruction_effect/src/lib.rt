@@ -1,6 +1,8 @@
 // What each instruction pops and pushes, as `instruction_effect` of stack_usage_verifier.rs tells it: by a table of the fixed effects, and by
 // look-ups for the nine opcodes that have none. The unit was read: `s` are its bytes, `index` and `view` say where its records and instructions
 // stand.
+#![tactic(auto)]
+
 ghost use Rattle.std.specs.Prelude.{◌≡◌, true, ◌<◌};
 ghost use Rattle.definitions.specs.Result.{◌>>?◌};
 ghost use Rattle.definitions.specs.CompiledUnit.{function_handle_at, function_instantiation_at};
@@ -26,18 +28,18 @@ use unit::View;
 use unit_views::{SignatureResult, StructDefResult};
 
 // What an opcode pops and pushes.
-#[derive(Drop)]
+#[derive(Clone, Copy)]
 pub struct Effect(pub u8, pub u8);
 
 // The pops and the pushes of an instruction, or the status of a refusal: the Rust's `PartialVMResult<(u64, u64)>`.
-#[derive(Drop)]
+#[derive(Clone, Copy)]
 pub enum EffectResult {
     Found(u64, u64),
     Refused(StatusCode),
 }
 
 // How many fields a struct has, or the status of a refusal.
-#[derive(Drop)]
+#[derive(Clone, Copy)]
 enum FieldCount {
     Found(u64),
     Refused(StatusCode),

@@ -1,5 +1,7 @@
 // One instruction, read from bytes of which nothing is known, by a table of how many bytes follow each opcode. The functions answer what the
 // reader of the definitions answers at that position, for every input. The instruction is not kept: a pass reads it again at its place.
+#![tactic(auto)]
+
 ghost use Rattle.std.specs.Prelude.{◌≡◌};
 ghost use Rattle.definitions.specs.CompiledUnit.{Head};
 ghost use Rattle.definitions.specs.Commands.{commands_of};

@@ -1,5 +1,7 @@
 // `verify_instr` of type_safety.rs: one decision over the opcode's arm picks the step. An instruction that names a table takes its operand as an
 // index of that table here; the effects that are looked up (crate instruction_effect) do so too.
+#![tactic(auto)]
+
 ghost use Rattle.std.specs.Prelude.{◌≡◌, ◌+◌, ◌<◌};
 ghost use Rattle.definitions.specs.Reader.{compiled_unit};
 ghost use Rattle.locals.specs.Locals.{LocalPlaces};

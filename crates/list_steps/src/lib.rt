@@ -1,6 +1,8 @@
 // Pops and pushes of a list of types, each with its parameters replaced: what a call does with its parameters and its returns, and Pack and
 // Unpack with the fields. `args` are the places of the type arguments in the unit, found once for an instruction. `Ret` compares the types
 // as they stand. Pushes are weighed, all of them, before the first is written.
+#![tactic(auto)]
+
 ghost use Rattle.std.specs.Prelude.{reverse, ◌≤◌, length};
 ghost use Rattle.definitions.specs.Machine.{pop_one, pop_each};
 ghost use Rattle.definitions.specs.Places.{TypeAt};
@@ -25,14 +27,14 @@ use type_stack::{Stepped, Top};
 use unit::View;
 
 // How a type of a list is taken: as it stands, or with the arguments in its parameters' places.
-#[derive(Drop)]
+#[derive(Clone, Copy)]
 pub enum Form {
     Written,
     Instantiated,
 }
 
 // Whether every type of a list has its parameters' numbers within the arguments.
-#[derive(Drop)]
+#[derive(Clone, Copy)]
 pub enum Instantiates {
     All,
     Past,

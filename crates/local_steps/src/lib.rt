@@ -1,5 +1,7 @@
 // The steps of type_safety.rs that push or compare the type of a local or of a constant of the unit: LdConst, CopyLoc, MoveLoc and StLoc. Each finds
 // out whether it succeeds before it writes, and pushes last.
+#![tactic(auto)]
+
 ghost use Rattle.std.specs.Prelude.{◌≤◌, length};
 ghost use Rattle.definitions.specs.Places.{TypeAt};
 ghost use Rattle.definitions.specs.Reader.{compiled_unit};

@@ -1,6 +1,8 @@
 // `Locals` of type_safety.rs: the types of the function's parameters and of its other locals, by their places in the unit. The places are
 // found once for a call, and behind them the end of the last type, so that each type ends at the next entry. The prover does not cover a
 // function over a struct that holds references, so those here are few and thin, and each is proved by hand; the work is in `place_of`.
+#![tactic(auto)]
+
 ghost use Rattle.std.specs.Prelude.{◌≡◌, ◌+◌, ◌≤◌, ◌<◌, length};
 ghost use Rattle.record_views.specs.Records.{TypesIn};
 ghost use Rattle.unit.specs.Views.{UnitRead};
@@ -13,14 +15,14 @@ use status::StatusCode;
 use unit::View;
 
 // At two lifetimes, since the prover covers no caller whose two references would be held at one.
-#[derive(Drop)]
+#[derive(Clone, Copy)]
 pub struct Locals<'a, 'b> {
     pub parameters: &'a [u16],
     pub locals: &'b [u16],
 }
 
 // A local's type: where it stands in the unit and where it ends; or that there is no such local.
-#[derive(Drop)]
+#[derive(Clone, Copy)]
 pub enum LocalResult {
     Found { at: usize, end: usize },
     Refused(StatusCode),

@@ -1,5 +1,7 @@
 // Types that an instruction makes, and that stand nowhere yet: a struct with its type arguments, a reference to one, and a reference to a
 // field's type with its parameters replaced. Each is measured first, and then written into the free end of the area.
+#![tactic(auto)]
+
 ghost use Rattle.std.specs.Prelude.{◌≤◌, length};
 ghost use Rattle.definitions.specs.Places.{TypeAt};
 ghost use Rattle.record_views.specs.Records.{TypesIn};

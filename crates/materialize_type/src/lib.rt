@@ -1,5 +1,7 @@
 // `materialize_type` of type_safety.rs over bytes: a struct with its arguments, as a size, as a writer into a lent slice and as a comparison
 // with a type that stands elsewhere.
+#![tactic(auto)]
+
 ghost use Rattle.std.specs.Prelude.{◌-◌, ◌≤◌, ◌<◌, length};
 ghost use Rattle.signature_token.specs.Same.{Spans};
 ghost use Rattle.materialize_type.specs.Materialize.{IsCommand, IsLength, ArgumentList, StructRoom, MaterializedSize, MaterializedInto, MaterializedSame};

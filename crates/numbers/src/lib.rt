@@ -1,4 +1,6 @@
 // Numbers as a unit's bytes hold them, the low byte first, and numbers in more bits, none of which is lost.
+#![tactic(auto)]
+
 ghost use Rattle.std.specs.Prelude.{◌≡◌, ◌+◌, ◌*◌, ◌<◌, length, get_or};
 
 // A byte as a number of the machine.

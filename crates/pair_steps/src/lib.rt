@@ -1,5 +1,7 @@
 // The steps of type_safety.rs that look nothing up in the unit and pop two operands: arithmetic, shifts, Or and And, comparisons. A step that
 // only reads takes the area as `&[u8]`: what it pushes stands there already.
+#![tactic(auto)]
+
 ghost use Rattle.definitions.specs.TypeSafety as step;
 ghost use Rattle.type_stack.specs.Held.{Stacked};
 ghost use Rattle.type_stack.specs.Stepping.{StepsTo};

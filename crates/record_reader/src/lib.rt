@@ -1,6 +1,8 @@
 // One record's body or one type, read from bytes of which nothing is known. Each function answers what the reader of the definitions answers
 // at that position, for every input: where the next byte is, or the refusal and its byte. The value that stands there is not kept: what a
 // pass needs of it is read again at its place.
+#![tactic(auto)]
+
 ghost use Rattle.std.specs.Prelude.{◌≡◌, List, length};
 ghost use Rattle.definitions.specs.SignatureToken.{Signature};
 ghost use Rattle.definitions.specs.CompiledUnit.{Head};
@@ -15,14 +17,14 @@ use status::StatusCode;
 use type_commands::{plain_width, wraps};
 
 // Where reading goes on, or why it ends and the byte that this is about.
-#[derive(Drop)]
+#[derive(Clone, Copy)]
 pub enum ReadTo {
     Next(usize),
     Refused(StatusCode, usize),
 }
 
 // What follows a type's command: nothing, a type, a u16, or a u16 with a list of types.
-#[derive(Drop)]
+#[derive(Clone, Copy)]
 enum TypeShape {
     Leaf,
     Over,

@@ -1,4 +1,6 @@
 // What stands in a record or an instruction of a unit that was read, at a place that the reader's index has: read again, without a scan.
+#![tactic(auto)]
+
 ghost use Rattle.std.specs.Prelude.{◌≡◌, ◌+◌, ◌<◌, length};
 ghost use Rattle.record_reader.specs.Apart.{number_of};
 ghost use Rattle.record_views.specs.Records.{ListAt, DefAt, InstructionHere, InstructionIs, DefIs};
@@ -7,27 +9,27 @@ use file_format::StructHandleIndex;
 use numbers::{u16_at, wide};
 
 // The types of a list: where the first stands in the unit, and how many there are.
-#[derive(Drop)]
+#[derive(Clone, Copy)]
 pub struct TypeList {
     pub at: usize,
     pub count: usize,
 }
 
 // `StructFieldInformation`.
-#[derive(Drop)]
+#[derive(Clone, Copy)]
 pub enum Fields {
     Native,
     Declared(TypeList),
 }
 
-#[derive(Drop)]
+#[derive(Clone, Copy)]
 pub struct StructDef {
     pub handle: StructHandleIndex,
     pub fields: Fields,
 }
 
 // An instruction: its opcode, the local or the table index after it, and how many elements. What the opcode does not take is anything.
-#[derive(Drop)]
+#[derive(Clone, Copy)]
 pub struct Instruction {
     pub opcode: u8,
     pub local: u8,

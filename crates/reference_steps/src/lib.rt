@@ -1,5 +1,7 @@
 // The steps of type_safety.rs over references: the borrows of a local, ReadRef and WriteRef. Each finds out whether it succeeds before it writes, and
 // pushes last.
+#![tactic(auto)]
+
 ghost use Rattle.definitions.specs.Places.{TypeAt};
 ghost use Rattle.definitions.specs.Reader.{compiled_unit};
 ghost use Rattle.definitions.specs.TypeSafety as step;
@@ -19,7 +21,7 @@ use type_tests::Referent;
 use unit::View;
 
 // A type as a reference of either kind: where what it refers to stands, or that it is none.
-#[derive(Drop)]
+#[derive(Clone, Copy)]
 enum EitherReference {
     Inner(usize),
     Value,

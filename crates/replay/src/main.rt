@@ -1,5 +1,7 @@
 // Judges a recorded sample of cases and writes a verdict to a line; what it must write is what the oracle answered to them. README.md
 // beside `src` says how the sample was made and what it covers.
+#![tactic(auto)]
+
 use libc::STDIN_FILENO;
 
 fn main() {

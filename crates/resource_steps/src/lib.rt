@@ -1,4 +1,6 @@
 // The steps of type_safety.rs that ask for a struct in global storage or change it: exists, move_from and move_to. Each tests key before it pops.
+#![tactic(auto)]
+
 ghost use Rattle.definitions.specs.Places.{TypeAt};
 ghost use Rattle.definitions.specs.Reader.{compiled_unit};
 ghost use Rattle.definitions.specs.TypeSafety as step;

@@ -1,6 +1,8 @@
 // A type taken apart at its first command, and where types end. `token_at` is the one place in the passes that takes a type apart; where the
 // commands alone tell its end, nothing is taken apart, and `type_commands` counts its bytes. The reader, which meets bytes that open no type,
 // has its own.
+#![tactic(auto)]
+
 ghost use Rattle.std.specs.Prelude.{◌≡◌};
 ghost use Rattle.definitions.specs.Places.{TypeAt, TypesAt, EndOfType, EndOfTypes};
 ghost use Rattle.signature_token.specs.Token.{shape_of, TokenAt};
@@ -26,7 +28,7 @@ pub const VECTOR: u8 = 0x07;
 pub const REFERENCE: u8 = 0x0A;
 
 // What a type's command opens.
-#[derive(Drop)]
+#[derive(Clone, Copy)]
 enum Shape {
     Leaf,
     Vector,
@@ -38,7 +40,7 @@ enum Shape {
 }
 
 // What stands around a type in a type of two levels or more.
-#[derive(Drop)]
+#[derive(Clone, Copy)]
 pub enum Wrapper {
     Vector,
     Reference,
@@ -47,7 +49,7 @@ pub enum Wrapper {
 
 // A type taken apart: its command where it is a leaf; what is around it and where the inner type stands; a handle; a handle, how many
 // arguments and where the first stands; a parameter's number.
-#[derive(Drop)]
+#[derive(Clone, Copy)]
 pub enum Token {
     Leaf(u8),
     Wrapped(Wrapper, usize),

@@ -1,5 +1,7 @@
 // The stack usage pass, beside stack_usage_verifier.rs: the height of the stack over a block, and the verdict over the blocks as listed. The unit
 // was read: `s` are its bytes, `index` and `view` say where its records and instructions stand.
+#![tactic(auto)]
+
 ghost use Rattle.std.specs.Prelude.{◌≡◌, ◌<◌, ◌≤◌};
 ghost use Rattle.definitions.specs.Reader.{compiled_unit};
 ghost use Rattle.definitions.specs.StackUsage.{height_after, verify_block};
@@ -14,14 +16,14 @@ use status::{Position, StatusCode, Verdict};
 use unit::View;
 
 // The height of the stack after an instruction, or the status of a refusal.
-#[derive(Drop)]
+#[derive(Clone, Copy)]
 enum Height {
     At(u64),
     Refused(StatusCode),
 }
 
 // How a block ends: the Rust's `PartialVMResult<()>`.
-#[derive(Drop)]
+#[derive(Clone, Copy)]
 enum BlockResult {
     Accepted,
     Refused(StatusCode),

@@ -1,9 +1,11 @@
 // What a call answers: document 01's verdicts, as enums, with the number, the letter and the place that it prints for each.
+#![tactic(auto)]
+
 ghost use Rattle.std.specs.Prelude.{◌≡◌};
 ghost use Rattle.status.specs.Verdict.{status_number, number_of, letter_of, place_of, refusal};
 
 // Why a unit is refused. Numbers 1 to 13 are document 01's own names, 14 to 46 those of the Rust's `StatusCode`.
-#[derive(Drop)]
+#[derive(Clone, Copy)]
 pub enum StatusCode {
     TOO_LONG,
     SHORT,
@@ -54,7 +56,7 @@ pub enum StatusCode {
 }
 
 // What a verdict is about: a byte of the unit, the first instruction of a block, an instruction, or nothing.
-#[derive(Drop)]
+#[derive(Clone, Copy)]
 pub enum Position {
     Byte(u16),
     BlockStart(u16),
@@ -63,7 +65,7 @@ pub enum Position {
 }
 
 // The answer of each public call.
-#[derive(Drop)]
+#[derive(Clone, Copy)]
 pub enum Verdict {
     Accepted,
     Refused(StatusCode, Position),

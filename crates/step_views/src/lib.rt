@@ -1,5 +1,7 @@
 // What a step looks up in the unit beyond one table: a struct with its type arguments, and whether a type has the ability that is asked
 // of it. A look-up that fails is the step's refusal.
+#![tactic(auto)]
+
 ghost use Rattle.std.specs.Prelude.{◌≡◌};
 ghost use Rattle.definitions.specs.CompiledUnit as defs;
 ghost use Rattle.definitions.specs.Places.{TypeAt};
@@ -22,20 +24,20 @@ use unit::View;
 use unit_views::{SignatureResult, StructDefResult};
 
 // A struct definition and its type arguments.
-#[derive(Drop)]
+#[derive(Clone, Copy)]
 pub struct StructWith {
     pub def: StructDef,
     pub type_args: TypeList,
 }
 
-#[derive(Drop)]
+#[derive(Clone, Copy)]
 pub enum StructWithResult {
     Found(StructWith),
     Refused(StatusCode),
 }
 
 // That a type has the ability asked of it, or the status of a refusal.
-#[derive(Drop)]
+#[derive(Clone, Copy)]
 pub enum Checked {
     Passed,
     Refused(StatusCode),

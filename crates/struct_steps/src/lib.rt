@@ -1,5 +1,7 @@
 // `pack` and `unpack` of type_safety.rs: every field is instantiated before one is compared or pushed. `found` is what the instruction's
 // look-up answered: of a struct that is not generic, or of a generic one.
+#![tactic(auto)]
+
 ghost use Rattle.std.specs.Prelude.{◌≤◌, length};
 ghost use Rattle.definitions.specs.TypeSafety as step;
 ghost use Rattle.record_views.specs.Records.{TypesIn};

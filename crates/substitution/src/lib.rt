@@ -1,6 +1,8 @@
 // `instantiate` of type_safety.rs over a type's bytes, as a size: how many bytes a type has whose parameters are replaced. It may be longer
 // than any area, so it is never built to be measured or compared. As a writer it is substitution_writer, as a comparison
 // substitution_comparison. The arguments are a slice and the places where they stand in it.
+#![tactic(auto)]
+
 ghost use Rattle.std.specs.Prelude.{◌+◌, ◌≤◌, ◌<◌};
 ghost use Rattle.definitions.specs.Places.{TypeAt, TypesAt};
 ghost use Rattle.substitution.specs.Instantiate.{Arguments};
@@ -10,7 +12,7 @@ use signature_token::Token;
 
 // Where a type ends, and how many bytes it has with its parameters replaced: 65,536 stands for any number over 65,535, more than an
 // area holds. Or a parameter's number is past the list.
-#[derive(Drop)]
+#[derive(Clone, Copy)]
 pub enum Size {
     Bytes { next: usize, len: usize },
     Past,

@@ -1,5 +1,7 @@
 // `instantiate` of type_safety.rs over a type's bytes, and `==`: the type with its parameters replaced is compared with a type that stands
 // elsewhere, without being written.
+#![tactic(auto)]
+
 ghost use Rattle.std.specs.Prelude.{◌-◌, ◌≤◌, ◌<◌, length, take, drop};
 ghost use Rattle.definitions.specs.Places.{TypeAt, TypesAt};
 ghost use Rattle.substitution.specs.Instantiate.{Arguments};
@@ -11,7 +13,7 @@ use signature_token::Token;
 use substitution::Size;
 
 // How a type that stands elsewhere compares with a type whose parameters are replaced. A parameter's number past the list comes first.
-#[derive(Drop)]
+#[derive(Clone, Copy)]
 pub enum Comparison {
     Same,
     Differs,
@@ -19,7 +21,7 @@ pub enum Comparison {
 }
 
 // Whether what a type gives stands at a place of other bytes: where it ends there, where the next type stands, and how many types are left.
-#[derive(Drop)]
+#[derive(Clone, Copy)]
 enum Match {
     Upto {
         reached: usize,

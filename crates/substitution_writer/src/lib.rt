@@ -1,5 +1,7 @@
 // `instantiate` of type_safety.rs over a type's bytes, as a writer: the type with its parameters replaced is written into a lent slice that
 // has room for it.
+#![tactic(auto)]
+
 ghost use Rattle.std.specs.Prelude.{length};
 ghost use Rattle.substitution.specs.Filling.{Room, Rooms, ArgumentRoom};
 ghost use Rattle.substitution_writer.specs.Write.{ArgumentWritten, WroteFrom, WroteAllFrom, WroteAt};
@@ -7,7 +9,7 @@ ghost use Rattle.substitution_writer.specs.Write.{ArgumentWritten, WroteFrom, Wr
 use signature_token::Token;
 
 // Where a type ends in ty, and where its bytes end that were written.
-#[derive(Drop)]
+#[derive(Clone, Copy)]
 pub struct Reached {
     pub next: usize,
     pub end: usize,

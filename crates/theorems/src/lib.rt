@@ -1,1 +1,3 @@
 // No code: what holds of the definitions is in specs/.
+#![tactic(auto)]
+

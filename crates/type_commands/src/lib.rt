@@ -1,5 +1,7 @@
 // What a type's command alone tells of the type: how many bytes it has, where no other type stands inside, and whether it stands around one
 // other. The answers are numbers that are added and not cases that are decided: which of them a type is, the processor foresees badly.
+#![tactic(auto)]
+
 ghost use Rattle.std.specs.Prelude.{◌≡◌};
 ghost use Rattle.type_commands.specs.Plain.{leaf_width, index_width, plain_width, wrapping};
 

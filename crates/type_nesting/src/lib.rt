@@ -1,4 +1,6 @@
 // How many levels a type nests, and the deepest type of a list.
+#![tactic(auto)]
+
 ghost use Rattle.std.specs.Prelude.{◌≡◌, max};
 ghost use Rattle.definitions.specs.Places.{TypeAt, TypesAt};
 ghost use Rattle.type_nesting.specs.Nesting.{NestingAt, NestingsAt};

@@ -1,4 +1,6 @@
 // The places of the types of a list, found in one walk along it.
+#![tactic(auto)]
+
 ghost use Rattle.std.specs.Prelude.{◌≤◌, length};
 ghost use Rattle.definitions.specs.Places.{TypesAt};
 ghost use Rattle.type_places.specs.Places.{PlacesAt};

@@ -1,5 +1,7 @@
 // What a push writes behind the stack, a type's first byte and the length that ends an entry, and the pushes that need no more than these
 // two: of a type of one byte, and of a type that stands at the stack's end already, with another first byte.
+#![tactic(auto)]
+
 ghost use Rattle.std.specs.Prelude.{◌≡◌, [], ◌∷◌, ◌+◌, ◌≤◌, ◌<◌, length};
 ghost use Rattle.definitions.specs.SignatureToken.{le16};
 ghost use Rattle.type_stack.specs.Spliced.{spliced};

@@ -1,6 +1,8 @@
 // `verify` of type_safety.rs: the blocks as listed, each from its first to its last instruction, following no jump, past Ret and Abort too.
 // The stack is empty at first and is not cleared between blocks. Whether it was empty after each of them is told beside the verdict: where it
 // was, stack usage accepts too (theorems, specs/Clean).
+#![tactic(auto)]
+
 ghost use Rattle.std.specs.Prelude.{◌≡◌, ◌≤◌, ◌<◌, ◌&&◌, eqb, length};
 ghost use Rattle.definitions.specs.Reader.{compiled_unit};
 ghost use Rattle.definitions.specs.Verify.{walk_block};
@@ -16,7 +18,7 @@ use type_stack::{Stepped, Walk};
 use unit::View;
 
 // The verdict of types, and whether the walk was clean: no instruction was refused, and the stack was empty after each block.
-#[derive(Drop)]
+#[derive(Clone, Copy)]
 pub struct Types {
     pub verdict: Verdict,
     pub clean: bool,

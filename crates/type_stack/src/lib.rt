@@ -1,6 +1,8 @@
 // The stack of types in the lent area: entries from the bottom up, each its type's bytes and then their length as a u16. A stack's
 // weight is the number of its bytes. Here are the looks at its top, and the answers of steps and of walks; the pushes are type_pushes and
 // copied_pushes.
+#![tactic(auto)]
+
 ghost use Rattle.std.specs.Prelude.{◌≡◌};
 ghost use Rattle.type_stack.specs.Held.{Stacked};
 ghost use Rattle.type_stack.specs.Tops.{TopOf, TopTwoOf};
@@ -9,7 +11,7 @@ use numbers::wide;
 use status::StatusCode;
 
 // What a step answers.
-#[derive(Drop)]
+#[derive(Clone, Copy)]
 pub enum Stepped {
     // the weight of the stack after the step
     Next(usize),
@@ -17,7 +19,7 @@ pub enum Stepped {
 }
 
 // How a walk over instructions ends.
-#[derive(Drop)]
+#[derive(Clone, Copy)]
 pub enum Walk {
     // the weight of the stack after the last instruction
     Stands(usize),
@@ -30,14 +32,14 @@ pub enum Walk {
 }
 
 // The top entry: its type's bytes stand from start on, and what is below weighs start.
-#[derive(Drop)]
+#[derive(Clone, Copy)]
 pub enum Top {
     Empty,
     Entry { start: usize, len: usize },
 }
 
 // The top two entries, the second of which is below the first.
-#[derive(Drop)]
+#[derive(Clone, Copy)]
 pub enum TopTwo {
     Short,
     Entries {

@@ -1,4 +1,6 @@
 // What a step asks of an operand's type: whether it is the same as another, what it refers to, and whether it is an integer or a given leaf.
+#![tactic(auto)]
+
 ghost use Rattle.std.specs.Prelude.{◌≡◌, ◌&&◌, leb, ltb};
 ghost use Rattle.definitions.specs.Places.{TypeAt};
 ghost use Rattle.signature_token.specs.Same.{Spans, SameAt};
@@ -26,7 +28,7 @@ pub fn same_type(a: &[u8], x: usize, len: usize, b: &[u8], y: usize) -> bool
 }
 
 // What a type refers to: where that stands, by which kind of reference; or that it is no reference.
-#[derive(Drop)]
+#[derive(Clone, Copy)]
 pub enum Referent {
     Reference(usize),
     MutableReference(usize),

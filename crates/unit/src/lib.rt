@@ -1,5 +1,7 @@
 // The reader of a unit. It fills an index with the place of each record of a table, each block and each instruction, so that no look-up scans
 // a table.
+#![tactic(auto)]
+
 ghost use Rattle.std.specs.Prelude.{◌≡◌, ◌+◌, ◌≤◌, ◌<◌, length, get_or, replicate};
 ghost use Rattle.definitions.specs.Commands.{commands_of, known};
 ghost use Rattle.definitions.specs.Reader.{due, blocks_within, unit_under, read_unit};
@@ -11,28 +13,28 @@ ghost use Rattle.unit.specs.Views.{Ordered, table_at, view_from, answer_of, Inde
 use record_reader::ReadTo;
 use status::StatusCode;
 
-#[derive(Drop)]
+#[derive(Clone, Copy)]
 pub enum Head {
     Module,
     Script,
 }
 
 // A table's entries in the index: the places of its records.
-#[derive(Drop)]
+#[derive(Clone, Copy)]
 pub struct Table {
     pub base: u16,
     pub count: u16,
 }
 
 // How many records there are, and the next byte; or a refusal, and the byte that it is about.
-#[derive(Drop)]
+#[derive(Clone, Copy)]
 enum ReadTable {
     Records(usize, usize),
     Refused(StatusCode, usize),
 }
 
 // How many blocks there are, and how many instructions; or a refusal, and the byte that it is about.
-#[derive(Drop)]
+#[derive(Clone, Copy)]
 enum ReadListing {
     Counts(usize, usize),
     Refused(StatusCode, usize),
@@ -40,7 +42,7 @@ enum ReadListing {
 
 // What is known of a unit that was read: for each table, for the blocks and for the code the entries in the index, and the place of the
 // function's record.
-#[derive(Drop)]
+#[derive(Clone, Copy)]
 pub struct View {
     pub head: Head,
     pub struct_handles: Table,
@@ -57,7 +59,7 @@ pub struct View {
     pub code: Table,
 }
 
-#[derive(Drop)]
+#[derive(Clone, Copy)]
 pub enum ReadUnit {
     Unit(View),
     Refused(StatusCode, usize),

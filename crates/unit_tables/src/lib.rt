@@ -1,5 +1,7 @@
 // The tables of a unit that was read: where record i of one stands, by the index. Look-ups by number go through it, but that of a struct handle
 // for its abilities, which is lent its table's part of the index.
+#![tactic(auto)]
+
 ghost use Rattle.std.specs.Prelude.{◌≡◌, ◌+◌, ◌<◌, get_or};
 ghost use Rattle.unit_tables.specs.Tables.{Fits};
 

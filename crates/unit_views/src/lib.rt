@@ -1,6 +1,8 @@
 // Look-ups in a unit that was read: `s` are its bytes, `index` and `view` say where its records and instructions stand. Beside
 // binary_views.rs: a table that a script lacks is INVALID_OPERATION_IN_SCRIPT, an index past a table OUT_OF_TABLE. Here are those of types and
 // of struct definitions; handle_views has those of records of two numbers, ability_views those of abilities.
+#![tactic(auto)]
+
 ghost use Rattle.definitions.specs.CompiledUnit as defs;
 ghost use Rattle.definitions.specs.Reader.{compiled_unit};
 ghost use Rattle.unit.specs.Views.{UnitRead};
@@ -12,19 +14,19 @@ use status::StatusCode;
 use unit::{Head, View};
 
 // Where a type stands in the unit, or the status of a refusal.
-#[derive(Drop)]
+#[derive(Clone, Copy)]
 pub enum TypeResult {
     Found(usize),
     Refused(StatusCode),
 }
 
-#[derive(Drop)]
+#[derive(Clone, Copy)]
 pub enum SignatureResult {
     Found(TypeList),
     Refused(StatusCode),
 }
 
-#[derive(Drop)]
+#[derive(Clone, Copy)]
 pub enum StructDefResult {
     Found(StructDef),
     Refused(StatusCode),

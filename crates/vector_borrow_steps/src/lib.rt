@@ -1,4 +1,6 @@
 // VecImmBorrow and VecMutBorrow of type_safety.rs: the element type is looked up before the pops.
+#![tactic(auto)]
+
 ghost use Rattle.std.specs.Prelude.{◌≤◌, length};
 ghost use Rattle.definitions.specs.TypeSafety as step;
 ghost use Rattle.definitions.specs.Reader.{compiled_unit};

@@ -1,4 +1,6 @@
 // What the steps over vectors ask of an operand: whether it is a vector of a type of the unit, and whether it refers to one.
+#![tactic(auto)]
+
 ghost use Rattle.definitions.specs.Places.{TypeAt};
 ghost use Rattle.signature_token.specs.Same.{Spans};
 ghost use Rattle.vector_elements.specs.Elements.{VectorElementAt, ElementTypeAt, VectorIs, ElementIs};
@@ -7,7 +9,7 @@ use signature_token::{Token, Wrapper};
 use type_tests::Referent;
 
 // Where the element type of a vector stands.
-#[derive(Drop)]
+#[derive(Clone, Copy)]
 enum ElementType {
     Found(usize),
     NoVector,

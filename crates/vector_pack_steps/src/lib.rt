@@ -1,5 +1,7 @@
 // VecPack and VecUnpack of type_safety.rs: as many pops or pushes as the instruction says. VecPack looks the element type up before its pops,
 // VecUnpack after its pop.
+#![tactic(auto)]
+
 ghost use Rattle.definitions.specs.Machine.{pop_n};
 ghost use Rattle.definitions.specs.TypeSafety as step;
 ghost use Rattle.definitions.specs.Reader.{compiled_unit};

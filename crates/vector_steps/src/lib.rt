@@ -1,5 +1,7 @@
 // The steps of type_safety.rs on a vector behind a reference: VecLen, VecPushBack, VecPopBack and VecSwap. The element type that such an instruction
 // names is looked up where the Rust looks it up: after the pops, in VecSwap after its indexes too. A step that only reads takes the area as `&[u8]`.
+#![tactic(auto)]
+
 ghost use Rattle.definitions.specs.TypeSafety as step;
 ghost use Rattle.definitions.specs.Reader.{compiled_unit};
 ghost use Rattle.signature_token.specs.Same.{Spans};

@@ -1,5 +1,7 @@
 // Document 01's program: reads a unit from standard input, lends 16,384 bytes, runs both passes and prints the verdict. It has room for one
 // byte more than a unit may have, so that of a longer input enough is read to be refused as too long, and no part of it is judged.
+#![tactic(auto)]
+
 use libc::STDIN_FILENO;
 
 fn main() {

@@ -1,5 +1,7 @@
 // The public calls of document 01: read a unit, stack usage, types, and both. They ask nothing of their caller. An area that is too long is
 // refused before the unit is looked at; else the call leaves zeros in the whole area.
+#![tactic(auto)]
+
 ghost use Rattle.std.specs.Prelude.{◌≡◌, ◌≤◌, length, replicate};
 ghost use Rattle.definitions.specs.Reader.{read_unit, compiled_unit};
 ghost use Rattle.definitions.specs.Verify.{both_passes};
@@ -11,7 +13,7 @@ use status::{Position, StatusCode, Verdict};
 use unit::{ReadUnit, View};
 
 // What a call runs over a unit that was read.
-#[derive(Drop)]
+#[derive(Clone, Copy)]
 enum Passes {
     None,
     StackUsage,

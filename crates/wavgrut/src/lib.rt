@@ -1,5 +1,7 @@
 // The C interface: document 01's four public calls under C's names, for include/wavgrut.h. Each answers the verdict as one number, and like
 // the calls it stands for it asks nothing of the unit and the area that it is lent.
+#![tactic(auto)]
+
 ghost use Rattle.std.specs.Prelude.{◌≡◌, length};
 ghost use Rattle.definitions.specs.Verdicts.{read_verdict, stack_usage_verdict, types_verdict, both_verdict, area_after};
 ghost use Rattle.wavgrut.specs.Packed.{packed};
