@@ -9,6 +9,7 @@ pub data All {A : Type 0} (P : A → Type 0) : List A → Type 0 where
 pub all_member : {A : Type 0} {P : A → Type 0} {l : List A} {a : A} → All P l → Memᴰ a l → P a
 all_member (more h hs) (Memᴰ.head e) = rw e h
 all_member (more h hs) (Memᴰ.tail m) = all_member hs m
+all_member none m = elim m [ ]
 
 pub all_tabulate : {A : Type 0} {P : A → Type 0} (l : List A) → ((a : A) → Memᴰ a l → P a) → All P l
 all_tabulate [] f = none

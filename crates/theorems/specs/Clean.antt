@@ -59,6 +59,7 @@ stands_same e = cc
 holds : (b : Bool) → T b → {A : Type 0} (w : StatusCode) (r : Result A) → require b w r ≡ r
 unfolding require
 holds true t w r = refl
+holds false t w r = elim t [ ]
 
 height_is : (h h' : ℕ) (e : Effect) → e.pops ≤ h → h' + e.pops ≡ h + e.pushes → h' ≤ 65535 → height_after h e ≡ ok h'
 unfolding height_after
