@@ -211,18 +211,14 @@ module _ {a : List ℕ} {x l : ℕ} {t : SignatureToken} {r : Referent} (k : Ref
       go (as_mutable u f i) = let z : ◌≡◌ {A = ℕ} 0 1 = cc (k (operand h)) in absurd (omega arith)
       go (as_value f i j) = i
 
-  -- anything but a mutable reference: the number of the variant is one of the others
-  pub no_mutable : OneOf (0 ∷ 2 ∷ []) (tag_of the_type r) → mutable_inner t ≡ none
+  -- anything but a mutable reference
+  pub no_mutable : ((y : ℕ) → r ≡ MutableReference y → ⊥) → mutable_inner t ≡ none
   unfolding mutable_inner outer
-  no_mutable o = go (view x t)
+  no_mutable not = go (view x t)
     where
-      not : OneOf (0 ∷ 2 ∷ []) (tag_of the_type r) → {y : ℕ} → r ≡ MutableReference y → ⊥
-      not (inl i) e = let z : ◌≡◌ {A = ℕ} 1 0 = sym (ap (tag_of the_type) e) ∙ i in omega arith
-      not (inr i) e = let z : ◌≡◌ {A = ℕ} 1 2 = sym (ap (tag_of the_type) e) ∙ i in omega arith
-
       go : View x t → mutable_inner t ≡ none
       go (as_reference u f i) = ap mutable_inner i
-      go (as_mutable u f i) = absurd (not o (k (operand h) ∙ f))
+      go (as_mutable u f i) = absurd (not _ (k (operand h) ∙ f))
       go (as_value f i j) = j
 
 -- a type that stands somewhere, as the laws of references ask for it

@@ -5,7 +5,7 @@ use Prim.Native.Nat.{ℕ, suc, ◌+◌, ◌-◌, ◌≤◌, ◌<◌}
 use native.Mathlib.Omega.{arith}
 use lib.ListN.{length, get_or}
 use Rattle.status.specs.declared.StatusCode.TheVariants.{SHORT}
-use denote.Enum.Declared.{tag_of, declared as enum-of}
+use denote.Enum.Declared.{tag_of, declared as enum_of}
 use Rattle.definitions.specs.Reading.{Read, read, stop, Reader, next, ◌>>=◌, give, skip, many}
 use Rattle.record_reader.specs.declared.ReadTo.{ReadTo}
 use Rattle.record_reader.specs.declared.ReadTo.TheVariants.{Next, Refused}

@@ -1,0 +1,6 @@
+-- What the walk answers, without the end.
+use borrow.Author.Rules.{rules}
+use Rattle.binary_views.proofs.abilities.Goals as goal
+
+pub returns : goal.returns
+returns c = rw c.without_end.ensures c.abilities_to.ensures.answer

@@ -1,0 +1,12 @@
+-- `push_within` pushes the type that it moves down.
+use native.Mathlib.Omega.{arith}
+use mathlib.Core.Path.{sym}
+use Rattle.type_stack.specs.Held.{part_length}
+use Rattle.type_stack.specs.Pushing.{push_sealed}
+use borrow.Author.Rules.{rules}
+use Rattle.copied_pushes.proofs.push_within.Goals as goal
+
+pub returns : goal.returns
+returns c =
+    push_sealed _ (sym (part_length c.requires.weight_le_from.1)) (omega arith) c.slide.ensures
+    c.seal.ensures.1 c.seal.ensures.0

@@ -1,0 +1,117 @@
+use Prim.Native.Nat.{◌+◌, ◌-◌, ◌≤◌}
+use native.Mathlib.Omega.{arith}
+use mir.Facts.{Fits-widen}
+use lib.ListN.{length}
+use borrow.Author.Rules.{rules}
+use Rattle.signature_token.specs.Lists.{type_left}
+use Rattle.signature_token.specs.Passing.{Passing, leaf_within, struct_within, parameter_within, wrapped_less, instantiation_less, instantiation_passed, left_room}
+use Rattle.substitution.specs.Size.{argument_type}
+use Rattle.substitution.specs.Counting.{Counted, passing, counted_start, counted_done, leaf_counted, struct_counted, argument_counted}
+use Rattle.substitution.specs.Counting.{argument_missing, wrapped_counted, instantiation_counted}
+use Rattle.substitution.proofs.size_of_types.Goals as goal
+use Rattle.substitution.proofs.size_of_types.Goals.{In-Leaf, In-Struct, In-TypeParameter}
+
+-- the bytes of a type that is passed whole are there
+leaf : (c : In-Leaf) → c.loop-left.p + 1 ≤ length c.args.ty.now
+leaf c = leaf_within c.loop-left-test.true (passing c.loop-left.invariant c.requires.arguments) c.token_at.ensures c.in-Leaf.is c.requires.types_at
+
+struct : (c : In-Struct) → c.loop-left.p + 3 ≤ length c.args.ty.now
+struct c = struct_within c.loop-left-test.true (passing c.loop-left.invariant c.requires.arguments) c.token_at.ensures c.in-Struct.is c.requires.types_at
+
+parameter : (c : In-TypeParameter) → c.loop-left.p + 3 ≤ length c.args.ty.now
+parameter c = parameter_within c.loop-left-test.true (passing c.loop-left.invariant c.requires.arguments) c.token_at.ensures c.in-TypeParameter.is c.requires.types_at
+
+pub loop-left-init : goal.loop-left-init
+loop-left-init c = counted_start
+
+pub token_at-requires : goal.token_at-requires
+token_at-requires c = type_left c.loop-left-test.true (c.loop-left.invariant.is c.requires.types_at c.requires.arguments).left
+
+pub overflow_add-p : goal.overflow_add-p
+overflow_add-p c = omega (arith, leaf (goal.at.overflow_add-p c).In-Leaf)
+
+pub overflow_sub-left : goal.overflow_sub-left
+overflow_sub-left c = c.loop-left-test.true
+
+pub grown-len-requires : goal.grown-len-requires
+grown-len-requires c = omega (arith, c.loop-left.invariant.small)
+
+pub loop-left-smaller-in-Leaf : goal.loop-left-smaller-in-Leaf
+loop-left-smaller-in-Leaf c = omega (arith, leaf (goal.at.loop-left-smaller-in-Leaf c).In-Leaf)
+
+pub loop-left-preserved-in-Leaf : goal.loop-left-preserved-in-Leaf
+loop-left-preserved-in-Leaf c = leaf_counted c.loop-left-test.true c.loop-left.invariant c.token_at.ensures c.in-Leaf.is c.grown-len.ensures
+
+pub grown-len-requires-in-Wrapped : goal.grown-len-requires-in-Wrapped
+grown-len-requires-in-Wrapped c = omega (arith, c.loop-left.invariant.small)
+
+pub loop-left-smaller-in-Wrapped : goal.loop-left-smaller-in-Wrapped
+loop-left-smaller-in-Wrapped c = wrapped_less c.loop-left-test.true (passing c.loop-left.invariant c.requires.arguments) c.token_at.ensures c.in-Wrapped.is c.requires.types_at
+
+pub loop-left-preserved-in-Wrapped : goal.loop-left-preserved-in-Wrapped
+loop-left-preserved-in-Wrapped c =
+    wrapped_counted c.loop-left-test.true c.loop-left.invariant c.token_at.ensures c.in-Wrapped.is
+    c.grown-len-in-Wrapped.ensures
+
+pub overflow_add-p-in-Struct : goal.overflow_add-p-in-Struct
+overflow_add-p-in-Struct c = omega (arith, struct (goal.at.overflow_add-p-in-Struct c).In-Struct)
+
+pub overflow_sub-left-in-Struct : goal.overflow_sub-left-in-Struct
+overflow_sub-left-in-Struct c = c.loop-left-test.true
+
+pub grown-len-requires-in-Struct : goal.grown-len-requires-in-Struct
+grown-len-requires-in-Struct c = omega (arith, c.loop-left.invariant.small)
+
+pub loop-left-smaller-in-Struct : goal.loop-left-smaller-in-Struct
+loop-left-smaller-in-Struct c = omega (arith, struct (goal.at.loop-left-smaller-in-Struct c).In-Struct)
+
+pub loop-left-preserved-in-Struct : goal.loop-left-preserved-in-Struct
+loop-left-preserved-in-Struct c =
+    struct_counted c.loop-left-test.true c.loop-left.invariant c.token_at.ensures c.in-Struct.is
+    c.grown-len-in-Struct.ensures
+
+pub overflow_sub-left-in-StructInstantiation : goal.overflow_sub-left-in-StructInstantiation
+overflow_sub-left-in-StructInstantiation c = c.loop-left-test.true
+
+pub overflow_add-left : goal.overflow_add-left
+overflow_add-left c = omega (arith, left_room (instantiation_passed c.loop-left-test.true (passing c.loop-left.invariant c.requires.arguments) c.token_at.ensures c.in-StructInstantiation.is c.requires.types_at))
+
+pub grown-len-requires-in-StructInstantiation : goal.grown-len-requires-in-StructInstantiation
+grown-len-requires-in-StructInstantiation c = omega (arith, c.loop-left.invariant.small)
+
+pub loop-left-smaller-in-StructInstantiation : goal.loop-left-smaller-in-StructInstantiation
+loop-left-smaller-in-StructInstantiation c = instantiation_less c.loop-left-test.true (passing c.loop-left.invariant c.requires.arguments) c.token_at.ensures c.in-StructInstantiation.is c.requires.types_at
+
+pub loop-left-preserved-in-StructInstantiation : goal.loop-left-preserved-in-StructInstantiation
+loop-left-preserved-in-StructInstantiation c =
+    instantiation_counted c.loop-left-test.true c.loop-left.invariant c.token_at.ensures c.in-StructInstantiation.is
+    c.grown-len-in-StructInstantiation.ensures
+
+pub returns-then-places-i : goal.returns-then-places-i
+returns-then-places-i c =
+    argument_missing c.loop-left-test.true c.loop-left.invariant c.token_at.ensures c.in-TypeParameter.is
+    c.if-places-i.true
+
+pub overflow_add-p-in-TypeParameter : goal.overflow_add-p-in-TypeParameter
+overflow_add-p-in-TypeParameter c = omega (arith, parameter (goal.at.overflow_add-p-in-TypeParameter c).In-TypeParameter)
+
+pub overflow_sub-left-in-TypeParameter : goal.overflow_sub-left-in-TypeParameter
+overflow_sub-left-in-TypeParameter c = c.loop-left-test.true
+
+pub size_of_argument-len-requires : goal.size_of_argument-len-requires
+size_of_argument-len-requires c =
+    record {
+      type_at = argument_type (omega arith) c.requires.arguments;
+      len_bound = c.loop-left.invariant.small;
+    }
+
+pub loop-left-smaller : goal.loop-left-smaller
+loop-left-smaller c = omega (arith, parameter (goal.at.loop-left-smaller c).In-TypeParameter)
+
+pub loop-left-preserved : goal.loop-left-preserved
+loop-left-preserved c =
+    argument_counted c.loop-left-test.true c.loop-left.invariant c.token_at.ensures c.in-TypeParameter.is
+    (omega arith) c.requires.arguments c.size_of_argument-len.ensures
+
+pub returns : goal.returns
+returns c = counted_done c.loop-left.invariant (omega arith)

@@ -1,0 +1,22 @@
+-- `nesting_of_type` and `nesting_of_types`, which call each other: each answers how many levels the deepest type that stands there nests.
+use native.Mathlib.Omega.{arith}
+use borrow.Author.Rules.{rules}
+use Rattle.signature_token.specs.TokenLaws.{inner_type, inner_types}
+use Rattle.signature_token.specs.Lists.{next_type}
+use Rattle.signature_token.specs.Ends.{type_measure, list_measure, inner_falls, arguments_fall}
+use Rattle.type_nesting.specs.Nesting.{DeepestAlong, deepest_start, deepest_next, deepest_done, nesting_fits, nestings_fit, leaf_nesting}
+use Rattle.type_nesting.specs.Nesting.{wrapped_nesting, struct_nesting, instantiation_nesting, parameter_nesting}
+use Prim.Native.Nat.{ℕ, ◌<◌, ◌+◌, ◌-◌}
+use Rattle.type_nesting.proofs.+nesting_of_type_nesting_of_types.Given as goal
+
+abbrev pub decreases-nesting_of_type : goal.decreases-nesting_of_type
+decreases-nesting_of_type l = type_measure l.s.now l.at
+
+abbrev pub decreases-nesting_of_types : goal.decreases-nesting_of_types
+decreases-nesting_of_types l = list_measure l.s.now l.at l.n
+
+abbrev pub invariant-nesting_of_types-loop-i : goal.invariant-nesting_of_types-loop-i
+invariant-nesting_of_types-loop-i l = DeepestAlong l.s l.at l.n l.next l.deepest l.i
+
+abbrev pub decreases-nesting_of_types-loop-i : goal.decreases-nesting_of_types-loop-i
+decreases-nesting_of_types-loop-i l = l.n - l.i
