@@ -3,11 +3,12 @@
 // junk. Where it is not as it is due afterwards, the line `area` follows the verdict's, so that a comparison of what is written shows it.
 #![tactic(auto)]
 
-ghost use Rattle.std.specs.Prelude.{◌≤◌, ◌<◌, length};
+ghost use Rattle.std.specs.Prelude.{◌≤◌, ◌<◌, length, IfOk};
 
-use libc::STDOUT_FILENO;
 use numbers::wide;
 use status::Verdict;
+use std::io;
+use std::io::Print;
 
 // No call may leave it, unless it leaves the whole area untouched.
 const JUNK: u8 = 7;
@@ -54,40 +55,47 @@ fn all(bytes: &[u8], x: u8) -> bool {
 }
 
 // Judges a unit with an area of junk, and writes the verdict and whether the area is as it is due.
-fn judge_in(call: u8, unit: &[u8], area: &mut [u8]) {
+fn judge_in<R: Print>(rt: &R, call: u8, unit: &[u8], area: &mut [u8]) -> io::Result<()> {
     let verdict = verdict_of(call, unit, area);
-    verdict_line::print(verdict);
+    verdict_line::print(rt, verdict)?;
     if !all(area, due_in_area(verdict)) {
-        io::write_all(STDOUT_FILENO, b"area\n");
+        println!(rt; "area")?;
     }
+    Ok(())
 }
 
-fn judge(call: u8, n: usize, unit: &[u8])
+fn judge<R: Print>(rt: &R, call: u8, n: usize, unit: &[u8]) -> io::Result<()>
     requires { n ≤ 65536 }
 {
     let mut area = [JUNK; 65536];
-    judge_in(call, unit, &mut area[..n]);
+    judge_in(rt, call, unit, &mut area[..n])
 }
 
 // Judges the case at the front of the input, and answers how many bytes it took: all where no whole case is left.
-fn judge_first(input: &[u8]) -> usize
+fn judge_first<R: Print>(rt: &R, input: &[u8]) -> io::Result<usize>
     requires { 0 < length input.now }
-    ensures { (0 < result) × (result ≤ length input.now) }
+    ensures { IfOk result (λ n. (0 < n) × (n ≤ length input.now)) }
 {
     if input.len() < 9 {
-        return input.len();
+        return Ok(input.len());
     }
     let end = 9 + number(&input[5..9]);
     if input.len() < end {
-        return input.len();
+        return Ok(input.len());
     }
-    judge(input[0], area_length(number(&input[1..5])), &input[9..end]);
-    end
+    judge(
+        rt,
+        input[0],
+        area_length(number(&input[1..5])),
+        &input[9..end],
+    )?;
+    Ok(end)
 }
 
-pub fn judge_all(input: &[u8]) {
+pub fn judge_all<R: Print>(rt: &R, input: &[u8]) -> io::Result<()> {
     let mut at = 0usize;
     while at < input.len() {
-        at += judge_first(&input[at..]);
+        at += judge_first(rt, &input[at..])?;
     }
+    Ok(())
 }

@@ -1,10 +1,10 @@
 -- A type by the shape of its command: one law for each way that reading it goes.
-use mathlib.Core.Path.{◌≡◌, refl, sym, ap, ◌∙◌}
-use mathlib.Core.List.{List, [], ◌∷◌}
+use mathlib.Core.Path.{◌≡◌, refl, sym, ◌∙◌}
+use mathlib.Core.List.{List}
 use Prim.Native.Nat.{ℕ, zero, suc, ◌+◌, ◌-◌, ◌≤◌, ◌<◌}
 use native.Mathlib.Nat.{add-zero}
 use native.Mathlib.Omega.{arith}
-use lib.ListN.{length, get_or, replicate, get_or-replicate, get_or-eq_default, get_or-append, get_or-map}
+use lib.ListN.{length, get_or}
 use Rattle.status.specs.declared.StatusCode.TheVariants.{SHORT, COMMAND, DEPTH}
 use Rattle.definitions.specs.SignatureToken.{SignatureToken}
 use Rattle.definitions.specs.CompiledUnit.{Head}
@@ -101,18 +101,3 @@ module _ (head : Head) (s : List ℕ) where
       ∙ around_rest (type_within (commands_of head) (levels - 1)) s at (opened (get_or s at 0)) (sym e)
       ∙ type_shaped head s at (omega arith) levels (λ z. omega arith) refl
   plain_read at levels (suc (suc w)) width h l e f k = absurd (omega (arith, around_most (opened (get_or s at 0))))
-
--- ── the shape of a command ──
-
--- 01 to 06 are leaves
-pub leaves : (b : ℕ) → 0 < b → b < 7 → Leaf ≡ type_shape b
-leaves zero h k = absurd (omega arith)
-leaves (suc b) h k =
-    sym (
-    sym (get_or-map shape_of type_commands (suc b) TypeCommand.unknown)
-    ∙ get_or-append (replicate 6 Leaf) (Over ∷ Index ∷ Instantiation ∷ Over ∷ Over ∷ Index ∷ []) Unknown b (omega arith)
-    ∙ get_or-replicate 6 b Leaf Unknown (omega arith))
-
--- nothing is opened past 0C
-pub past_commands : (b : ℕ) → 12 < b → Unknown ≡ type_shape b
-past_commands b h = ap shape_of (sym (get_or-eq_default type_commands TypeCommand.unknown h))

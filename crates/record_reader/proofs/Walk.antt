@@ -4,19 +4,21 @@ use mathlib.Core.List.{List}
 use Prim.Native.Nat.{ℕ, suc, ◌+◌, ◌-◌, ◌≤◌, ◌<◌}
 use native.Mathlib.Omega.{arith}
 use lib.ListN.{length, get_or}
+use Rattle.status.specs.declared.StatusCode.{StatusCode}
 use Rattle.status.specs.declared.StatusCode.TheVariants.{SHORT}
-use denote.Enum.Declared.{tag_of, declared as enum_of}
 use Rattle.definitions.specs.Reading.{Read, read, stop, Reader, next, ◌>>=◌, give, skip, many}
 use Rattle.record_reader.specs.declared.ReadTo.{ReadTo}
 use Rattle.record_reader.specs.declared.ReadTo.TheVariants.{Next, Refused}
 use Rattle.record_reader.specs.ReadTo.{read_to}
 use Rattle.record_reader.specs.Alike.{alike_map, byte_next, byte_short, skip_next, skip_short}
 use Rattle.record_reader.specs.Bodies.{counted}
-use Rattle.record_reader.specs.contracts.ReadTo.{enum as the_enum}
 
 -- the answer is a refusal, as the `else` of a `let` says it
 abbrev pub Stopped : ReadTo → Type 0
-Stopped r = tag_of (enum_of the_enum) r ≡ 1
+Stopped r = (e : ℕ) → r ≡ Next e → ⊥
+
+pub stopped : {w : StatusCode} {p : ℕ} → Stopped (Refused w p)
+stopped e q = cc
 
 module _ {A B : Type 0} (m : Reader A) (f : A → Reader B) (s : List ℕ) (at : ℕ) where
   pub went_on : {x : ReadTo} (e : ℕ) → read_to (m s at) ≡ Next e → ((a : A) → read_to (f a s e) ≡ x) → read_to ((m >>= f) s at) ≡ x
@@ -32,8 +34,7 @@ module _ {A B : Type 0} (m : Reader A) (f : A → Reader B) (s : List ℕ) (at :
   refused {r} h k = go (m s at) r h k
     where
       go : (x : Read A) (r : ReadTo) → r ≡ read_to x → Stopped r → r ≡ read_to (next x (λ a d. f a s d))
-      go (read a d) (Next e) q z = absurd (omega arith)
-      go (read a d) (Refused w p) q z = let y : ◌≡◌ {A = ℕ} 0 1 = cc in absurd (omega arith)
+      go (read a d) r q z = absurd (z d q)
       go (stop w p) r q z = q
 
 module _ (s : List ℕ) (at n : ℕ) where

@@ -2,10 +2,10 @@
 // beside `src` says how the sample was made and what it covers.
 #![tactic(auto)]
 
-use libc::STDIN_FILENO;
+use std::io;
 
-fn main() {
+fn main(rt: HostRuntime) -> io::Result<()> {
     let mut input = [0u8; 262144];
-    let n = io::read_full(STDIN_FILENO, &mut input);
-    cases::judge_all(&input[..n]);
+    let n = verdict_line::read_full(&mut rt.reader(), &mut input)?;
+    cases::judge_all(&rt, &input[..n])
 }

@@ -1,6 +1,6 @@
 -- A step beside its stack effect. `WithinEffect I r m`: the step moves as many types as the effect says where the effect is found, some
 -- numbers of types where it is refused; a step that goes through has an effect; and the effect is refused only as a look-up in a table is.
-use Rattle.std.specs.Prelude.{◌≡◌, ℕ, suc, ◌+◌, length}
+use Rattle.std.specs.Prelude.{◌≡◌, ℕ, ◌+◌}
 use Rattle.std.proofs.Math.Path.{refl}
 use Rattle.std.proofs.Common.{arith}
 use Rattle.definitions.specs.Result.{Result, ok, err, ◌>>?◌}

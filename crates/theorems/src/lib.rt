@@ -1,3 +1,2 @@
 // No code: what holds of the definitions is in specs/.
 #![tactic(auto)]
-

@@ -2,11 +2,11 @@
 // byte more than a unit may have, so that of a longer input enough is read to be refused as too long, and no part of it is judged.
 #![tactic(auto)]
 
-use libc::STDIN_FILENO;
+use std::io;
 
-fn main() {
+fn main(rt: HostRuntime) -> io::Result<()> {
     let mut input = [0u8; 32769];
-    let n = io::read_full(STDIN_FILENO, &mut input);
+    let n = verdict_line::read_full(&mut rt.reader(), &mut input)?;
     let mut area = [0u8; 16384];
-    verdict_line::print(verifier::verify_both(&input[..n], &mut area));
+    verdict_line::print(&rt, verifier::verify_both(&input[..n], &mut area))
 }

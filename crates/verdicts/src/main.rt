@@ -2,10 +2,10 @@
 // to a line. What it must write stands in that file too, from document 01 and from the Rust, never from this program.
 #![tactic(auto)]
 
-use libc::STDIN_FILENO;
+use std::io;
 
-fn main() {
-    let mut input = io::large_buffer();
-    let n = io::read_full(STDIN_FILENO, &mut input);
-    cases::judge_all(&input[..n]);
+fn main(rt: HostRuntime) -> io::Result<()> {
+    let mut input = [0u8; 65536];
+    let n = verdict_line::read_full(&mut rt.reader(), &mut input)?;
+    cases::judge_all(&rt, &input[..n])
 }

@@ -1,17 +1,10 @@
 -- The abilities of a type with its end, those of an instantiated struct, and the walk along its arguments, which call each other. The measure of
 -- a type's walk is its unread bytes; the list's walk adds how many types are left, and the struct's stands one above it. The loop's invariant is
 -- `Gathering`.
-use native.Mathlib.Omega.{arith}
-use mathlib.Core.Path.{sym}
-use borrow.Author.Rules.{rules}
-use lib.Seq.{length-take-le}
-use Rattle.signature_token.specs.TokenLaws.{inner_type, inner_types}
-use Rattle.signature_token.specs.Ends.{leaf_end, struct_end, parameter_end, type_measure, list_measure, inner_falls}
-use Rattle.binary_views.specs.Abilities.{struct_measure, handle_found, end_room, leaf_abilities, vector_abilities, reference_abilities}
-use Rattle.binary_views.specs.Abilities.{mutable_reference_abilities, struct_abilities, parameter_abilities, arguments_fit, instantiation_falls}
-use Rattle.binary_views.specs.Abilities.{instantiation_type, instantiation_past, argument_refused, instantiation_abilities}
-use Rattle.binary_views.specs.Gathering.{Gathering, gathering_start, gathering_type, gathering_next, gathering_refused, gathering_done}
-use Prim.Native.Nat.{ℕ, ◌<◌, ◌+◌, ◌-◌}
+use Rattle.std.specs.Prelude.{◌-◌}
+use Rattle.signature_token.specs.Ends.{type_measure, list_measure}
+use Rattle.binary_views.specs.Abilities.{struct_measure}
+use Rattle.binary_views.specs.Gathering.{Gathering}
 use Rattle.binary_views.proofs.+abilities_to_gather_instantiation_abilities.Given as goal
 
 abbrev pub decreases-abilities_to : goal.decreases-abilities_to

@@ -1,5 +1,4 @@
 -- What the walk answers, without the end.
-use borrow.Author.Rules.{rules}
 use Rattle.binary_views.proofs.abilities.Goals as goal
 
 pub returns : goal.returns

@@ -2,7 +2,6 @@
 use native.Mathlib.Omega.{arith}
 use Rattle.binary_views.specs.Handles.{handle_room}
 use Rattle.binary_views.specs.Abilities.{instantiated_at}
-use borrow.Author.Rules.{rules}
 use Rattle.binary_views.proofs.instantiated_abilities.Goals as goal
 
 pub overflow_add-from : goal.overflow_add-from

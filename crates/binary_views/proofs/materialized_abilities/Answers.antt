@@ -1,5 +1,4 @@
 -- The abilities of what `materialize_type` makes: those of a plain struct where there is no argument, else those of an instantiation.
-use borrow.Author.Rules.{rules}
 use Rattle.binary_views.specs.Abilities.{plain_made, generic_made}
 use Rattle.binary_views.proofs.materialized_abilities.Goals as goal
 

@@ -2,7 +2,6 @@
 use native.Mathlib.Omega.{arith}
 use Rattle.binary_views.specs.Handles.{handle_room}
 use Rattle.binary_views.specs.Abilities.{handle_found, struct_found, struct_past}
-use borrow.Author.Rules.{rules}
 use Rattle.binary_views.proofs.struct_abilities.Goals as goal
 
 pub overflow_add-result : goal.overflow_add-result

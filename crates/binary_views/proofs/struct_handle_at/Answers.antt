@@ -1,7 +1,6 @@
 -- An index within the places has one; any other is past the table.
 use native.Mathlib.Omega.{arith}
 use Rattle.binary_views.specs.Tables.{place_within, place_past}
-use borrow.Author.Rules.{rules}
 use Rattle.binary_views.proofs.struct_handle_at.Goals as goal
 
 pub returns-then-handles-i : goal.returns-then-handles-i

@@ -1,6 +1,5 @@
 -- An index within the function's list has a set; any other is past it.
 use Rattle.binary_views.specs.Abilities.{parameter_within, parameter_past}
-use borrow.Author.Rules.{rules}
 use Rattle.binary_views.proofs.type_parameter_abilities.Goals as goal
 
 pub returns-then-i-constraints : goal.returns-then-i-constraints

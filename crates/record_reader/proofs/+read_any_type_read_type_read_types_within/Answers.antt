@@ -1,41 +1,27 @@
 use mathlib.Core.Path.{◌≡◌, refl, sym, ◌∙◌}
-use Prim.Native.Nat.{ℕ, ◌+◌, ◌-◌, ◌*◌, ◌≤◌, ◌<◌}
+use Prim.Native.Nat.{ℕ, ◌+◌, ◌-◌, ◌<◌}
 use native.Mathlib.Omega.{arith}
-use borrow.Author.Rules.{rules}
+use mathlib.Core.List.{List}
+use lib.ListN.{length, get_or}
 use Rattle.definitions.specs.CompiledUnit.{Head}
-use Rattle.definitions.specs.Reading.{many, skip}
+use Rattle.definitions.specs.Reading.{skip}
 use Rattle.definitions.specs.Commands.{commands_of}
 use Rattle.definitions.specs.Reader.{type_within}
 use Rattle.record_reader.specs.declared.TypeShape.{TypeShape}
 use Rattle.record_reader.specs.ReadTo.{read_to}
-use Rattle.record_reader.specs.Bodies.{counted}
+use Rattle.record_reader.specs.Bodies.{counted, type_shape}
 use Rattle.record_reader.proofs.Walk.{counted_short, counted_starts, went_on, refused, many_done, many_next, many_refused}
 use Rattle.record_reader.proofs.Types.{rest_to, type_short, type_deep, type_shaped}
 use Rattle.record_reader.proofs.+read_any_type_read_type_read_types_within.Goals as goal
 
--- what read_any_type calls
-abbrev claims : ℕ → read-any-type-lts.Claims
-claims t = (
-  type-shape-reads.Asked,
-  type-shape-reads.Learnt,
-  skip-bytes-reads.Asked,
-  skip-bytes-reads.Learnt,
-  read-types-within-below t,
-  read-types-within.Post,
-)
-
--- once the command's shape is told, the rest of the type is read by it
-shaped :
-    (t : ℕ) (c : read-any-type-lts.After-type-shape (claims t) (read-any-type-at t) read-any-type.Post read-any-type-Inv-loop read-any-type-μ-loop)
-    (head : Head) {shape : TypeShape} → c.type-shape.result ≡ shape →
-    let l = c.before.before.before.before.loop in
-    let a = c.before.before.before.before.before.before.args in
-    rest_to (type_within (commands_of head) (l.left - 1)) l.p shape a.s.now (l.p + 1)
-    ≡ read_to (type_within (commands_of head) a.levels a.s.now a.at)
-shaped t c head e =
-    let l = c.before.before.before.before.loop in
-    type_shaped head _ _ c.before.before.before.loop-test.true l.left c.before.before.if1.false (sym e ∙ c.type-shape.ensures)
-    ∙ sym (l.invariant.1 head)
+-- once the command's shape is told, the rest of the type is read by it; the loop has gone from `at` to `p`
+module _ (head : Head) (s : List ℕ) (at levels p left : ℕ) where
+  shaped :
+      p < length s → (left ≡ 0 → ⊥) →
+      read_to (type_within (commands_of head) levels s at) ≡ read_to (type_within (commands_of head) left s p) →
+      {shape : TypeShape} → shape ≡ type_shape (get_or s p 0) →
+      rest_to (type_within (commands_of head) (left - 1)) p shape s (p + 1) ≡ read_to (type_within (commands_of head) levels s at)
+  shaped h f e k = type_shaped head s p h left f k ∙ sym e
 
 pub read_any_type-loop-p-init : goal.read_any_type-loop-p-init
 read_any_type-loop-p-init t c = (omega arith, λ head. refl)
@@ -43,28 +29,32 @@ read_any_type-loop-p-init t c = (omega arith, λ head. refl)
 pub read_any_type-returns-then-left-eq0 : goal.read_any_type-returns-then-left-eq0
 read_any_type-returns-then-left-eq0 t c = λ head. type_deep head _ _ c.loop-p-test.true _ c.if-left-eq0.true ∙ sym (c.loop-p.invariant.1 head)
 
-pub read_any_type-overflow_add-result : goal.read_any_type-overflow_add-result
-read_any_type-overflow_add-result t c = λ head. shaped t (goal.at.read_any_type-overflow_add-result c).After-type_shape head c.in-Leaf.is
+pub read_any_type-returns-in-Leaf : goal.read_any_type-returns-in-Leaf
+read_any_type-returns-in-Leaf t c =
+    λ head. shaped head _ _ _ _ _ c.loop-p-test.true c.if-left-eq0.false (c.loop-p.invariant.1 head) c.in-Leaf.ensures
 
 pub read_any_type-loop-p-preserved : goal.read_any_type-loop-p-preserved
-read_any_type-loop-p-preserved t c = (omega arith, λ head. sym (shaped t (goal.at.read_any_type-loop-p-preserved c).After-type_shape head c.in-Over.is))
+read_any_type-loop-p-preserved t c =
+    (omega arith, λ head. sym (shaped head _ _ _ _ _ c.loop-p-test.true c.if-left-eq0.false (c.loop-p.invariant.1 head) c.in-Over.ensures))
 
 pub read_any_type-returns-in-Index : goal.read_any_type-returns-in-Index
-read_any_type-returns-in-Index t c = λ head. c.skip_bytes.ensures ∙ shaped t (goal.at.read_any_type-returns-in-Index c).After-type_shape head c.in-Index.is
+read_any_type-returns-in-Index t c =
+    λ head. c.skip_bytes.ensures ∙ shaped head _ _ _ _ _ c.loop-p-test.true c.if-left-eq0.false (c.loop-p.invariant.1 head) c.in-Index.ensures
 
 pub read_any_type-returns-in_default : goal.read_any_type-returns-in_default
 read_any_type-returns-in_default t c =
     λ head. refused (skip 2) (λ _. counted (type_within (commands_of head) (c.loop-p.left - 1))) _ _ c.skip_bytes-handle.ensures
-    c.in_default.keys2 ∙ shaped t (goal.at.read_any_type-returns-in_default c).After-type_shape head c.in-Instantiation.is
+    c.in_default.not-Next ∙ shaped head _ _ _ _ _ c.loop-p-test.true c.if-left-eq0.false (c.loop-p.invariant.1 head) c.in-Instantiation.ensures
 
 pub read_any_type-returns-in-Instantiation : goal.read_any_type-returns-in-Instantiation
 read_any_type-returns-in-Instantiation t c =
     λ head. sym (went_on (skip 2) (λ _. counted (type_within (commands_of head) (c.loop-p.left - 1))) _ _ _
     (sym c.skip_bytes-handle.ensures ∙ c.in-Next.is) (λ _. sym (c.read_types_within.ensures head)))
-    ∙ shaped t (goal.at.read_any_type-returns-in-Instantiation c).After-type_shape head c.in-Instantiation.is
+    ∙ shaped head _ _ _ _ _ c.loop-p-test.true c.if-left-eq0.false (c.loop-p.invariant.1 head) c.in-Instantiation.ensures
 
 pub read_any_type-returns-in-Unknown : goal.read_any_type-returns-in-Unknown
-read_any_type-returns-in-Unknown t c = λ head. shaped t (goal.at.read_any_type-returns-in-Unknown c).After-type_shape head c.in-Unknown.is
+read_any_type-returns-in-Unknown t c =
+    λ head. shaped head _ _ _ _ _ c.loop-p-test.true c.if-left-eq0.false (c.loop-p.invariant.1 head) c.in-Unknown.ensures
 
 pub read_any_type-returns : goal.read_any_type-returns
 read_any_type-returns t c = λ head. type_short head _ _ _ c.loop-p-test.false ∙ sym (c.loop-p.invariant.1 head)
@@ -82,10 +72,10 @@ pub read_types_within-returns-in_default : goal.read_types_within-returns-in_def
 read_types_within-returns-in_default t c =
     λ head. let l = c.loop-i in
     many_refused (type_within (commands_of head) c.args.levels) _ _ l.i l.next c.loop-i-test.true
-    (c.read_type-one.ensures head) c.in_default.keys2 ∙ sym (l.invariant.1 head)
+    (c.read_type-one.ensures head) c.in_default.not-Next ∙ sym (l.invariant.1 head)
 
 pub read_types_within-overflow_add-i : goal.read_types_within-overflow_add-i
-read_types_within-overflow_add-i t c = omega (arith, c.shared_slice_known-2-1.given c.args.at)
+read_types_within-overflow_add-i t c = omega (arith, c.type_inv.s c.args.at)
 
 pub read_types_within-loop-i-preserved : goal.read_types_within-loop-i-preserved
 read_types_within-loop-i-preserved t c =

@@ -3,7 +3,7 @@ use mathlib.Core.Path.{sym, ◌∙◌}
 use Rattle.definitions.specs.Commands.{commands_of}
 use Rattle.record_reader.specs.BodyLaws.{body_struct_handle, body_signature, body_struct_definition, body_constant, type_alike}
 use Rattle.record_reader.proofs.Records.{body_pair}
-use borrow.Author.Rules.{rules}
+use native.Mathlib.Omega.{arith}
 use Rattle.record_reader.proofs.read_body.Goals as goal
 
 pub returns-in-16 : goal.returns-in-16
@@ -20,5 +20,4 @@ returns-in-24 c = λ head. rw c.in-24.is (c.read_type.ensures head ∙ sym ((bod
 
 pub returns-in_default : goal.returns-in_default
 returns-in_default c =
-    λ head. let rest = c.in_default.rest in
-    c.read_pair.ensures ∙ body_pair (commands_of head) c.args.command _ _ rest.0.0.0.1 rest.0.0.1 rest.0.1 rest.1
+    λ head. c.read_pair.ensures ∙ body_pair (commands_of head) c.args.command _ _ (omega arith) (omega arith) (omega arith) (omega arith)

@@ -1,14 +1,10 @@
 -- A count, and that many bytes of at most so much. The loop reads `many` one by one.
-use borrow.Author.Rules.{rules}
-use mathlib.Core.Path.{◌≡◌, refl, sym, ◌∙◌}
+use mathlib.Core.Path.{◌≡◌}
 use Prim.Native.Nat.{◌-◌, ◌≤◌}
-use native.Mathlib.Omega.{arith}
 use Rattle.definitions.specs.Reading.{many}
 use Rattle.definitions.specs.Reader.{byte_up_to}
 use Rattle.record_reader.specs.ReadTo.{read_to}
 use Rattle.record_reader.specs.Bodies.{counted}
-use Rattle.record_reader.proofs.Walk.{counted_short, counted_starts, many_done, many_next, many_refused}
-use Rattle.record_reader.proofs.Records.{up_to_short, up_to_over, up_to_next}
 use Rattle.record_reader.proofs.read_bytes_up_to.Given as goal
 
 abbrev pub invariant-loop-i : goal.invariant-loop-i

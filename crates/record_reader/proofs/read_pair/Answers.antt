@@ -1,6 +1,5 @@
 -- Two u16 are four bytes.
 use mathlib.Core.Path.{sym, ◌∙◌}
-use borrow.Author.Rules.{rules}
 use Rattle.record_reader.specs.BodyLaws.{pair_takes}
 use Rattle.record_reader.proofs.read_pair.Goals as goal
 

@@ -1,7 +1,6 @@
 -- The index of a signature: its two bytes, then whether it is one of the unit's.
 use native.Mathlib.Omega.{arith}
 use Rattle.record_reader.proofs.Records.{signature_short, signature_cut, signature_past, signature_next}
-use borrow.Author.Rules.{rules}
 use Rattle.record_reader.proofs.read_signature_index.Goals as goal
 
 pub returns-then-s-at : goal.returns-then-s-at

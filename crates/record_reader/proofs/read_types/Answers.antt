@@ -1,6 +1,5 @@
 -- The types of a record nest 32 levels at most.
 use mathlib.Core.Path.{sym, ◌∙◌}
-use borrow.Author.Rules.{rules}
 use Rattle.definitions.specs.Commands.{commands_of}
 use Rattle.record_reader.specs.BodyLaws.{types_alike}
 use Rattle.record_reader.proofs.read_types.Goals as goal

@@ -1,6 +1,5 @@
 -- So many bytes are there, or they are not.
 use native.Mathlib.Omega.{arith}
-use borrow.Author.Rules.{rules}
 use Rattle.record_reader.proofs.Walk.{skip_past, skip_within}
 use Rattle.record_reader.proofs.skip_bytes.Goals as goal
 

@@ -1,5 +1,4 @@
 -- Each ability's arm is the definition's.
-use borrow.Author.Rules.{rules}
 use Rattle.definitions.specs.AbilitySet.{required_by}
 use Rattle.file_format.proofs.Ability.required_by.Goals as goal
 

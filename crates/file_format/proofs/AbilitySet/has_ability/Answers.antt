@@ -1,5 +1,4 @@
 -- The code's test is the definition's, over the ability's bit.
-use borrow.Author.Rules.{rules}
 use Rattle.definitions.specs.AbilitySet.{has_ability}
 use Rattle.file_format.proofs.AbilitySet.has_ability.Goals as goal
 

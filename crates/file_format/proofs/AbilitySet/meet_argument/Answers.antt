@@ -1,6 +1,5 @@
 -- A phantom parameter leaves the set as it is; any other meets it with what its argument leaves.
 use mathlib.Core.Path.{◌∙◌}
-use borrow.Author.Rules.{rules}
 use borrow.Author.Tests.{eq-eqb, ne_eqb}
 use Rattle.definitions.specs.AbilitySet.{meet_argument}
 use Rattle.file_format.proofs.AbilitySet.meet_argument.Goals as goal

@@ -1,8 +1,5 @@
-use Prim.Native.Nat.{◌-◌}
 use native.Mathlib.Omega.{arith}
-use borrow.Author.Rules.{rules}
-use lib.ListN.{length}
-use Rattle.file_format.proofs.Sets.{Met, met_none, met_more, met_all, unequal}
+use Rattle.file_format.proofs.Sets.{met_none, met_more, met_all, unequal}
 use Rattle.file_format.proofs.AbilitySet.polymorphic_abilities.Goals as goal
 
 pub returns-then-phantoms-sets : goal.returns-then-phantoms-sets

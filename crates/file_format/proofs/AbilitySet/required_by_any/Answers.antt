@@ -1,6 +1,5 @@
 -- Four calls in the order of the definition's fold.
 use mathlib.Core.Path.{◌∙◌}
-use borrow.Author.Rules.{rules}
 use Rattle.definitions.specs.AbilitySet.{required_by_any}
 use Rattle.file_format.proofs.AbilitySet.required_by_any.Goals as goal
 

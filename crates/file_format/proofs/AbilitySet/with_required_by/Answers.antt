@@ -1,6 +1,5 @@
 -- The two ways of the test are the two of the definition.
 use mathlib.Core.Path.{◌∙◌}
-use borrow.Author.Rules.{rules}
 use Rattle.definitions.specs.AbilitySet.{with_required_by}
 use Rattle.file_format.proofs.AbilitySet.with_required_by.Goals as goal
 

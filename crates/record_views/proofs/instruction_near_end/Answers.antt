@@ -1,0 +1,25 @@
+-- `instruction_near_end`: operands that don't fit before the end are not the instruction's, which was read.
+use mathlib.Core.Path.{refl}
+use native.Mathlib.Omega.{arith}
+use Rattle.record_views.specs.Reread.{reread, is_here}
+use borrow.Author.Rules.{rules}
+use Rattle.record_views.proofs.instruction_near_end.Goals as goal
+
+pub bounds-s-at : goal.bounds-s-at
+bounds-s-at c = (reread c.requires.0).within
+
+pub overflow_sub-left : goal.overflow_sub-left
+overflow_sub-left c = omega (arith, (reread c.requires.0).within)
+
+pub returns-then-left-gt2 : goal.returns-then-left-gt2
+returns-then-left-gt2 c =
+    λ p. is_here p refl (λ k. refl) (λ k. c.u16_at.ensures)
+    (λ k. absurd (omega (arith, (reread p).room, c.requires.1)))
+
+pub returns-then-left-gt1 : goal.returns-then-left-gt1
+returns-then-left-gt1 c = λ p. is_here p refl (λ k. refl) (λ k. absurd (omega (arith, (reread p).room))) (λ k. absurd (omega (arith, (reread p).room)))
+
+pub returns : goal.returns
+returns c =
+    λ p. is_here p refl (λ k. absurd (omega (arith, (reread p).room))) (λ k. absurd (omega (arith, (reread p).room)))
+    (λ k. absurd (omega (arith, (reread p).room)))
