@@ -4,7 +4,6 @@ use native.Mathlib.Omega.{arith}
 use lib.ListN.{get_or}
 use Rattle.instruction_reader.specs.Widths.{operand_width}
 use Rattle.instruction_reader.proofs.Instructions.{instruction_short, instruction_unknown, instruction_cut, instruction_taken}
-use borrow.Author.Rules.{rules}
 use Rattle.instruction_reader.proofs.read_instruction.Goals as goal
 use Rattle.instruction_reader.proofs.read_instruction.Goals.{After-wide-width}
 

@@ -3,7 +3,6 @@ use mathlib.Core.Path.{refl, ap, ◌∙◌}
 use native.Mathlib.Omega.{arith}
 use Rattle.record_reader.specs.Apart.{number_of}
 use Rattle.record_views.specs.Reread.{reread, is_here}
-use borrow.Author.Rules.{rules}
 use Rattle.record_views.proofs.instruction_at.Goals as goal
 
 pub overflow_sub-s : goal.overflow_sub-s

@@ -2,7 +2,6 @@
 use mathlib.Core.Path.{refl}
 use native.Mathlib.Omega.{arith}
 use Rattle.record_views.specs.Reread.{reread, is_here}
-use borrow.Author.Rules.{rules}
 use Rattle.record_views.proofs.instruction_near_end.Goals as goal
 
 pub bounds-s-at : goal.bounds-s-at

@@ -1,7 +1,6 @@
 -- `struct_def_at`: the answer is the definition that was read there.
 use mathlib.Core.Path.{refl}
 use Rattle.record_views.specs.Reread.{def_native, def_declared, def_room}
-use borrow.Author.Rules.{rules}
 use Rattle.record_views.proofs.struct_def_at.Goals as goal
 
 pub returns-then-s-at-eq0 : goal.returns-then-s-at-eq0

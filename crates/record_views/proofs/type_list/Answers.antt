@@ -2,7 +2,6 @@
 use mathlib.Core.Path.{refl}
 use native.Mathlib.Omega.{arith}
 use Rattle.record_views.specs.Reread.{list_read}
-use borrow.Author.Rules.{rules}
 use Rattle.record_views.proofs.type_list.Goals as goal
 
 pub returns : goal.returns

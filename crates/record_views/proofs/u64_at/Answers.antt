@@ -1,7 +1,6 @@
 -- `u64_at`: four u16 make up the u64.
 use native.Mathlib.Omega.{arith}
 use Rattle.record_views.specs.Reread.{four_u16}
-use borrow.Author.Rules.{rules}
 use Rattle.record_views.proofs.u64_at.Goals as goal
 
 pub returns : goal.returns

@@ -1,6 +1,5 @@
 -- The bytes are compared first; where they differ, the size tells whether a parameter is past the list.
 use Rattle.substitution_comparison.specs.Compare.{past_compared, same_compared, filled_differs}
-use borrow.Author.Rules.{rules}
 use Rattle.substitution_comparison.proofs.compare_walked.Goals as goal
 
 pub returns-then-same_instantiated : goal.returns-then-same_instantiated

@@ -1,9 +1,7 @@
 -- An argument's bytes, once its end is found; or there is no such argument.
 use native.Mathlib.Omega.{arith}
-use Rattle.definitions.specs.Places.{TypeAt}
 use Rattle.signature_token.specs.Ends.{type_room}
 use Rattle.substitution_comparison.specs.Matching.{past, argument_stands, argument_matched}
-use borrow.Author.Rules.{rules}
 use Rattle.substitution_comparison.proofs.match_argument.Goals as goal
 
 pub returns-then-places-i : goal.returns-then-places-i

@@ -1,7 +1,5 @@
 -- The bytes differ where there are too few; else the answer is that of the bytes.
-use native.Mathlib.Omega.{arith}
-use Rattle.substitution_comparison.specs.Matching.{part_yes, part_no, part_over}
-use borrow.Author.Rules.{rules}
+use Rattle.substitution_comparison.specs.Matching.{part_over}
 use Rattle.substitution_comparison.proofs.match_part.Goals as goal
 
 pub returns-then-s-e : goal.returns-then-s-e

@@ -1,13 +1,11 @@
 use native.Mathlib.Omega.{arith}
-use mir.Facts.{Fits-widen}
-use borrow.Author.Rules.{rules}
-use Rattle.signature_token.specs.Ends.{type_measure, list_measure, type_room, inner_falls, arguments_fall, struct_end, parameter_end}
+use Rattle.signature_token.specs.Ends.{type_room, inner_falls, arguments_fall, struct_end, parameter_end}
 use Rattle.signature_token.specs.Token.{at_some}
 use Rattle.byte_parts.specs.Bytes.{copied_long}
 use Rattle.substitution.specs.Filling.{leaf_fits, struct_fits, wrapped_fits, instantiation_fits, wrapped_room, instantiation_room, parameter_within, parameter_room}
-use Rattle.substitution_writer.specs.Write.{Writing, leaf_wrote, wrapped_wrote, struct_wrote, instantiation_wrote, parameter_wrote}
+use Rattle.substitution_writer.specs.Write.{leaf_wrote, wrapped_wrote, struct_wrote, instantiation_wrote, parameter_wrote}
 use Rattle.substitution_writer.specs.Write.{writing_start, writing_next, writing_done, writing_room, writing_onward, writing_long}
-use Prim.Native.Nat.{ℕ, ◌<◌, ◌+◌, ◌-◌}
+use Prim.Native.Nat.{◌+◌}
 use Rattle.substitution_writer.proofs.+write_type_write_types.Goals as goal
 
 pub write_type-token_at-requires : goal.write_type-token_at-requires
@@ -27,8 +25,7 @@ write_type-write_type-requires t c =
     let w = c.token_at.ensures in
     let e = c.in-Wrapped.is in
     let k = c.copy-after.ensures in
-    let m = c.decreases in
-    (omega (arith, inner_falls w c.requires.filling.from e), rw (copied_long k) (wrapped_room w c.requires e k.reached))
+    (omega (arith, inner_falls w c.requires.filling.from e, c.decreases), rw (copied_long k) (wrapped_room w c.requires e k.reached))
 
 pub write_type-overflow_add-result-in-Struct : goal.write_type-overflow_add-result-in-Struct
 write_type-overflow_add-result-in-Struct t c =
@@ -48,9 +45,8 @@ pub write_type-write_types-requires : goal.write_type-write_types-requires
 write_type-write_types-requires t c =
     let w = c.token_at.ensures in
     let e = c.in-StructInstantiation.is in
-    let k = c.copy-after-in-StructInstantiation.ensures in
-    let m = c.decreases in (
-      omega (arith, arguments_fall w c.requires.filling.from e (omega (arith, c.shared_slice_known-1.given (c.args.at + 3)))),
+    let k = c.copy-after-in-StructInstantiation.ensures in (
+      omega (arith, arguments_fall w c.requires.filling.from e (omega (arith, c.type_inv.ty (c.args.at + 3))), c.decreases),
       rw (copied_long k) (instantiation_room w c.requires e k.reached),
     )
 
@@ -64,6 +60,9 @@ write_type-overflow_add-result-in-TypeParameter t c =
 
 pub write_type-offset_bounds-places-i : goal.write_type-offset_bounds-places-i
 write_type-offset_bounds-places-i t c = omega (arith, parameter_within c.token_at.ensures c.requires c.in-TypeParameter.is)
+
+pub write_type-bounds-places-i : goal.write_type-bounds-places-i
+write_type-bounds-places-i t c = parameter_within c.token_at.ensures c.requires c.in-TypeParameter.is
 
 pub write_type-write_argument-requires : goal.write_type-write_argument-requires
 write_type-write_argument-requires t c = parameter_room c.token_at.ensures c.requires c.in-TypeParameter.is
@@ -93,9 +92,8 @@ write_types-loop-i-init t c = writing_start
 pub write_types-write_type-one-requires : goal.write_types-write_type-one-requires
 write_types-write_type-one-requires t c =
     let g = c.loop-i.invariant in
-    let m = c.decreases in
     let q = c.requires in (
-      omega (arith, writing_onward g q.filling, c.loop-i-test.true),
+      omega (arith, writing_onward g q.filling, c.loop-i-test.true, c.decreases),
       rw (writing_long g q.filling) (writing_room g c.loop-i-test.true q),
     )
 

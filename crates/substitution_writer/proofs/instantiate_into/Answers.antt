@@ -1,6 +1,5 @@
 -- A leaf is stored, and any other type is written by the walk, from place 0 on.
 use native.Mathlib.Omega.{arith}
-use borrow.Author.Rules.{rules}
 use Rattle.signature_token.specs.Token.{at_some}
 use Rattle.substitution.specs.Filling.{leaf_fits}
 use Rattle.substitution_writer.specs.Write.{wrote_at, leaf_at_front}

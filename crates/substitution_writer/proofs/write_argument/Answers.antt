@@ -1,8 +1,5 @@
 -- An argument's bytes are copied once its end is found.
-use native.Mathlib.Omega.{arith}
 use Rattle.substitution.specs.Filling.{argument_fits}
-use Rattle.substitution_writer.specs.Write.{argument_wrote}
-use borrow.Author.Rules.{rules}
 use Rattle.substitution_writer.proofs.write_argument.Goals as goal
 
 pub copy-requires : goal.copy-requires
