@@ -11,7 +11,7 @@ use lib.ListN.{length, get_or, drop, length-map, drop_of_length-le, get_or-map}
 use lib.Seq.{drop-cons}
 use Rattle.status.specs.declared.StatusCode.TheVariants.{BLOCK}
 use Rattle.definitions.specs.CompiledUnit.{Block}
-use Rattle.definitions.specs.Reading.{read, stop, next, ◌>>=◌, ◌>>◌, give, need, Placed}
+use Rattle.definitions.specs.Reading.{read, stop, next, ◌>>◌, give, need, Placed}
 use Rattle.definitions.specs.Reader.{items, block, blocks_within}
 use Rattle.record_reader.specs.declared.ReadTo.TheVariants.{Next, Refused}
 use Rattle.record_reader.specs.ReadTo.{read_to}

@@ -9,4 +9,3 @@ pub mod Blocks
 pub mod Due
 pub mod Listed
 pub mod Whole
-pub mod Calls

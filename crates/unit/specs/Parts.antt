@@ -10,7 +10,7 @@ use Rattle.std.proofs.Math.Dec.{eqb}
 use Rattle.definitions.specs.CompiledUnit.{Head, FunctionView}
 use Rattle.definitions.specs.Reading.{Read, read, stop, Reader, next, ◌>>=◌, ◌>>◌, give, here, byte, opens, Placed}
 use Rattle.definitions.specs.Commands.{Commands, commands_of, known}
-use Rattle.definitions.specs.Reader.{Decoded, items, table_within, table, due, function_view, unit_under, code}
+use Rattle.definitions.specs.Reader.{Decoded, items, table_within, table, due, function_view, unit_under}
 use Rattle.record_reader.specs.ReadTo.{read_to}
 use Rattle.record_reader.specs.Alike.{Alike}
 use Rattle.record_reader.specs.Bodies.{body_of}

@@ -1,7 +1,6 @@
 use mathlib.Core.Path.{refl}
-use Prim.Native.Nat.{◌-◌}
 use native.Mathlib.Omega.{arith}
-use Rattle.unit.proofs.Blocks.{Tested, block_here, tested_falls, tested_past, tested_more, tested_all}
+use Rattle.unit.proofs.Blocks.{block_here, tested_falls, tested_past, tested_more, tested_all}
 use Rattle.unit.proofs.check_blocks.Goals as goal
 
 pub loop-i-init : goal.loop-i-init

@@ -1,8 +1,6 @@
 -- `check_blocks`: each block before the i-th lies within the code, and the first that does not is the one that is named.
-use mathlib.Core.Path.{refl}
 use Prim.Native.Nat.{◌-◌}
-use native.Mathlib.Omega.{arith}
-use Rattle.unit.proofs.Blocks.{Tested, block_here, tested_falls, tested_past, tested_more, tested_all}
+use Rattle.unit.proofs.Blocks.{Tested}
 use Rattle.unit.proofs.check_blocks.Given as goal
 
 abbrev pub invariant-loop-i : goal.invariant-loop-i

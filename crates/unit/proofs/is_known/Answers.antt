@@ -2,7 +2,6 @@
 use Rattle.unit.specs.Filled.{head_of}
 use native.Mathlib.Omega.{arith}
 use Rattle.unit.proofs.Known.{known_handles, known_last, unknown_below, unknown_above, known_definitions, unknown_definitions}
-use borrow.Author.Rules.{rules}
 use Rattle.unit.proofs.is_known.Goals as goal
 
 pub returns-in-16-to-19 : goal.returns-in-16-to-19

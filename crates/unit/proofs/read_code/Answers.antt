@@ -1,14 +1,13 @@
 use mathlib.Core.Path.{◌≡◌, sym, ap, ◌∙◌}
-use Prim.Native.Nat.{ℕ, ◌+◌, ◌-◌}
+use Prim.Native.Nat.{ℕ, ◌+◌}
 use native.Mathlib.Omega.{arith}
-use borrow.Author.Rules.{rules}
 use Rattle.definitions.specs.CompiledUnit as defs
 use Rattle.definitions.specs.Commands.{commands_of}
 use Rattle.definitions.specs.Reading.{read, u16}
 use Rattle.definitions.specs.Reader.{instruction}
 use Rattle.record_reader.specs.Ends.{reads_within, instruction_reaches}
 use Rattle.unit.proofs.TableLoop.{got_next, got_refused}
-use Rattle.unit.proofs.CodeLoop.{InCode, u16_next, u16_short, u16_cut, code_start, code_more, code_refused, code_stops}
+use Rattle.unit.proofs.CodeLoop.{u16_next, u16_short, u16_cut, code_start, code_more, code_refused, code_stops}
 use Rattle.unit.proofs.CodeLoop.{code_stops_in, code_answers_refused, code_answers_read}
 use Rattle.unit.proofs.read_code.Goals as goal
 use Rattle.unit.proofs.read_code.Goals.{After-operand_widths-widths}

@@ -1,7 +1,6 @@
 -- `read_due`: the byte is there, it is the command, or the refusal is COMMAND or ORDER.
 use mathlib.Core.Path.{sym, ◌∙◌}
 use Rattle.unit.proofs.Due.{due_short, due_unknown, due_other, due_here}
-use borrow.Author.Rules.{rules}
 use Rattle.unit.proofs.read_due.Goals as goal
 
 pub returns-then-s-at : goal.returns-then-s-at

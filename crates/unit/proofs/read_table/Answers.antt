@@ -1,15 +1,12 @@
 use mathlib.Core.Path.{◌≡◌, refl, sym, ◌∙◌}
 use mathlib.Core.Bool.{true}
-use Prim.Native.Nat.{◌-◌}
 use native.Mathlib.Omega.{arith}
-use lib.ListN.{length}
-use borrow.Author.Rules.{rules}
 use Rattle.definitions.specs.CompiledUnit as defs
 use Rattle.definitions.specs.Commands.{commands_of, known}
 use Rattle.record_reader.specs.Bodies.{body_of}
 use Rattle.unit.specs.Filled.{head_of}
 use Rattle.record_reader.specs.Ends.{body_reaches}
-use Rattle.unit.proofs.TableLoop.{InTable, got_next, got_refused, table_start, table_more, table_refused, table_past, table_other, starts_size, table_filled}
+use Rattle.unit.proofs.TableLoop.{got_next, got_refused, table_start, table_more, table_refused, table_past, table_other, starts_size, table_filled}
 use Rattle.unit.proofs.TableLoop.{answers_read, answers_refused, filled_none, places_unknown, places_refused, places_read}
 use Rattle.unit.proofs.read_table.Goals as goal
 use Rattle.unit.proofs.read_table.Goals.{Else-not-is_known}
@@ -21,7 +18,8 @@ opens c = sym c.is_known.ensures ∙ c.if-not-is_known.false
 pub returns-then-not-is_known : goal.returns-then-not-is_known
 returns-then-not-is_known c =
     let q = sym c.is_known.ensures ∙ c.if-not-is_known.true in
-    answers_read _ _ _ _ _ (places_unknown _ _ _ _ q) refl (filled_none c.requires)
+    let t = answers_read c.args.s.now c.args.index.now c.args.index.now c.args.base _ (places_unknown _ _ _ _ q) refl (filled_none c.requires) in
+    record { value = t.0; filled_by = t.1 }
 
 pub loop-at-init : goal.loop-at-init
 loop-at-init c = λ h. table_start (body_of (commands_of h) _) _ c.requires
@@ -33,7 +31,8 @@ pub returns-then-s-at : goal.returns-then-s-at
 returns-then-s-at c =
     let v = c.loop-at.invariant (head_of c.args.head) in
     let q = places_read _ _ _ _ (opens (goal.at.returns-then-s-at c).Else-not-is_known) (table_other v c.loop-at-test.true c.if-s-at.true) in
-    answers_read _ _ _ _ _ q (starts_size v.acc v.size) (table_filled v)
+    let t = answers_read c.args.s.now c.args.index.now c.loop-at.index c.args.base _ q (starts_size v.acc v.size) (table_filled v) in
+    record { value = t.0; filled_by = t.1 }
 
 pub overflow_add-at : goal.overflow_add-at
 overflow_add-at c = omega (arith, (c.loop-at.invariant defs.Module).room.small)
@@ -46,7 +45,10 @@ returns-in-Refused c =
     let v = c.loop-at.invariant (head_of c.args.head) in
     let r = got_refused _ _ _ (sym (c.read_body.ensures (head_of c.args.head)) ∙ c.in-Refused.is) in
     let q = table_refused v c.loop-at-test.true c.if-s-at.false _ _ r in
-    answers_refused _ _ _ _ _ (places_refused _ _ _ _ (opens (goal.at.returns-in-Refused c).Else-not-is_known) q)
+    let t =
+    answers_refused c.args.s.now c.args.index.now c.loop-at.index c.args.base _
+    (places_refused _ _ _ _ (opens (goal.at.returns-in-Refused c).Else-not-is_known) q) in
+    record { value = t.0; filled_by = t.1 }
 
 pub overflow_cast-index : goal.overflow_cast-index
 overflow_cast-index c = let v = c.loop-at.invariant defs.Module in omega (arith, v.room.small)
@@ -78,4 +80,5 @@ pub returns : goal.returns
 returns c =
     let v = c.loop-at.invariant (head_of c.args.head) in
     let q = places_read _ _ _ _ (opens (goal.at.returns c).Else-not-is_known) (table_past v c.loop-at-test.false) in
-    answers_read _ _ _ _ _ q (starts_size v.acc v.size) (table_filled v)
+    let t = answers_read c.args.s.now c.args.index.now c.loop-at.index c.args.base _ q (starts_size v.acc v.size) (table_filled v) in
+    record { value = t.0; filled_by = t.1 }

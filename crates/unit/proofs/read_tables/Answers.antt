@@ -1,10 +1,9 @@
-use Prim.Native.Nat.{◌+◌, ◌-◌}
+use Prim.Native.Nat.{◌+◌}
 use native.Mathlib.Omega.{arith}
-use borrow.Author.Rules.{rules}
 use mathlib.Core.Path.{sym}
 use Rattle.definitions.specs.Commands.{commands_of}
 use Rattle.unit.specs.Filled.{head_of}
-use Rattle.unit.proofs.TablesLoop.{InTables, ten, tables_start, tables_more, tables_refused, tables_answer_refused, tables_answer}
+use Rattle.unit.proofs.TablesLoop.{tables_start, tables_more, tables_refused, tables_answer_refused, tables_answer}
 use Rattle.unit.proofs.Filling.{got_it, got_stop}
 use Rattle.unit.proofs.read_tables.Goals as goal
 use Rattle.unit.proofs.read_tables.Goals.{In-Records}
@@ -25,8 +24,8 @@ read_table-requires c = c.loop-i.invariant.room
 pub returns-in-Refused : goal.returns-in-Refused
 returns-in-Refused c =
     let t =
-      tables_answer_refused (commands_of (head_of c.args.head)) c.args.s.now c.args.index.now c.read_table.new.index c.loop-i.bases
-      (tables_refused c.loop-i.invariant c.loop-i-test.true (got_stop _ (sym c.in-Refused.ensures.value))) in
+    tables_answer_refused (commands_of (head_of c.args.head)) c.args.s.now c.args.index.now c.read_table.new.index c.loop-i.bases
+    (tables_refused c.loop-i.invariant c.loop-i-test.true (got_stop _ (sym c.in-Refused.ensures.value))) in
     record { value = t.0; filled_by = t.1.0; rows_by = t.1.1 }
 
 pub loop-i-preserved : goal.loop-i-preserved
@@ -36,3 +35,6 @@ pub returns : goal.returns
 returns c =
     let t = tables_answer (commands_of (head_of c.args.head)) c.args.s.now c.args.index.now c.loop-i.invariant c.loop-i-test.false in
     record { value = t.0; filled_by = t.1.0; rows_by = t.1.1 }
+
+pub overflow_add-base : goal.overflow_add-base
+overflow_add-base c = let g = one (goal.at.overflow_add-base c).In-Records in omega (arith, g.room.below, g.room.inside, g.room.small)

@@ -1,11 +1,8 @@
 -- `read_tables`: at each turn the tables so far stand in the index, and where each begins in the bases.
 use Prim.Native.Nat.{◌-◌}
-use native.Mathlib.Omega.{arith}
-use borrow.Author.Rules.{rules}
 use Rattle.definitions.specs.Commands.{commands_of}
 use Rattle.unit.specs.Filled.{head_of}
-use Rattle.unit.proofs.TablesLoop.{InTables, ten, tables_start, tables_more, tables_refused, tables_answer_refused, tables_answer}
-use Rattle.unit.proofs.Calls.{ToldTable, told_table, refused_table}
+use Rattle.unit.proofs.TablesLoop.{InTables}
 use Rattle.unit.proofs.read_tables.Given as goal
 
 abbrev pub invariant-loop-i : goal.invariant-loop-i
