@@ -1,4 +1,4 @@
-/* Wavgrut's C interface: document 01's four public calls, in libwavgrut.a (`rt staticlib wavgrut`).
+/* Wavgrut's C interface: document 01's four public calls, in libwavgrut.a (`rt lib` in crates/wavgrut).
  *
  * Each call is lent a unit, which it only reads, and a work area, which it writes. It answers for any bytes and any lengths: a unit that
  * is too long, cut short or no unit at all gets its verdict like any other.

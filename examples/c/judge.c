@@ -1,6 +1,6 @@
 /* Judges the unit in a file by both passes and prints document 01's line, "number letter place":
  *
- *     cc -I include -o judge examples/c/judge.c target/staticlib/libwavgrut.a && ./judge FILE */
+ *     cc -I include -o judge examples/c/judge.c crates/wavgrut/out/libwavgrut.a && ./judge FILE */
 #include <stdio.h>
 
 #include "wavgrut.h"

@@ -1,4 +1,4 @@
-//! Links the port, if it is there: libwavgrut.a of the folder WAVGRUT_LIB (default: the repository's target/staticlib).
+//! Links the port, if it is there: libwavgrut.a of the folder WAVGRUT_LIB (default: the repository's crates/wavgrut/out).
 //! Without it everything but `compare`, `sweep` and `bench` works.
 use std::env;
 use std::path::PathBuf;
@@ -9,7 +9,7 @@ fn main() {
     let manifest = PathBuf::from(env::var_os("CARGO_MANIFEST_DIR").expect("set by cargo"));
     let folder = match env::var_os("WAVGRUT_LIB") {
         Some(folder) => PathBuf::from(folder),
-        None => manifest.join("../../target/staticlib"),
+        None => manifest.join("../../crates/wavgrut/out"),
     };
     let library = folder.join("libwavgrut.a");
     println!("cargo:rerun-if-changed={}", library.display());
