@@ -4,7 +4,6 @@ use Rattle.std.specs.Prelude.{◌≡◌, refl, ℕ, zero, suc, ◌/◌, ◌%◌,
 use Rattle.std.proofs.Common.{sym, ◌∙◌, arith}
 use Rattle.std.proofs.Math.Path.{ap}
 use mathlib.Core.List.{List, [], ◌∷◌, ◌++◌, append_assoc, append-nil}
-use Rattle.std.proofs.Math.Option.{none}
 use Rattle.status.specs.declared.StatusCode.TheVariants.{OUT_OF_TABLE}
 use Rattle.definitions.specs.Result.{Result, ok, err, ◌>>?◌, at as nth}
 use Rattle.definitions.specs.SignatureToken.{SignatureToken, SignatureTokens, Signature, Vector, Struct as StructOf, StructInstantiation as InstantiationOf, Reference, MutableReference, []ᵗ, ◌∷ᵗ◌, count, encode, encode_all}

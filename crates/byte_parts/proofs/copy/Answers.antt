@@ -1,9 +1,8 @@
 use mathlib.Core.Path.{◌≡◌, refl, ap, ◌∙◌}
 use mathlib.Core.List.{List}
-use Prim.Native.Nat.{ℕ, ◌+◌, ◌-◌, ◌≤◌}
+use Prim.Native.Nat.{ℕ, ◌+◌}
 use native.Mathlib.Omega.{arith}
-use borrow.Author.Rules.{rules}
-use lib.ListN.{length, take, drop, set, length-set, get_or}
+use lib.ListN.{take, drop, set, length-set, get_or}
 use lib.Seq.{sets}
 use Rattle.byte_parts.specs.Bytes.{copied_more}
 use Rattle.byte_parts.proofs.copy.Goals as goal

@@ -1,12 +1,8 @@
 -- The loop's invariant: the first i bytes are stored, and nothing else changed.
-use mathlib.Core.Path.{◌≡◌, refl, ap, ◌∙◌}
-use mathlib.Core.List.{List}
-use Prim.Native.Nat.{ℕ, ◌+◌, ◌-◌, ◌≤◌}
-use native.Mathlib.Omega.{arith}
-use borrow.Author.Rules.{rules}
-use lib.ListN.{length, take, drop, set, length-set, get_or}
+use mathlib.Core.Path.{◌≡◌}
+use Prim.Native.Nat.{◌-◌, ◌≤◌}
+use lib.ListN.{length, take, drop}
 use lib.Seq.{sets}
-use Rattle.byte_parts.specs.Bytes.{copied_more}
 use Rattle.byte_parts.proofs.copy.Given as goal
 
 abbrev pub invariant-loop-i : goal.invariant-loop-i

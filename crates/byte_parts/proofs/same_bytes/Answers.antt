@@ -1,7 +1,5 @@
-use Prim.Native.Nat.{◌-◌, ◌≤◌}
 use native.Mathlib.Omega.{arith}
-use borrow.Author.Rules.{rules}
-use Rattle.signature_token.specs.Same.{Alike, alike_more}
+use Rattle.signature_token.specs.Same.{alike_more}
 use Rattle.byte_parts.specs.Bytes.{bytes_same, bytes_differ}
 use Rattle.byte_parts.proofs.same_bytes.Goals as goal
 

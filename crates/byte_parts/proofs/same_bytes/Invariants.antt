@@ -1,9 +1,6 @@
 -- The loop's invariant: the first i bytes are the same.
 use Prim.Native.Nat.{◌-◌, ◌≤◌}
-use native.Mathlib.Omega.{arith}
-use borrow.Author.Rules.{rules}
-use Rattle.signature_token.specs.Same.{Alike, alike_more}
-use Rattle.byte_parts.specs.Bytes.{bytes_same, bytes_differ}
+use Rattle.signature_token.specs.Same.{Alike}
 use Rattle.byte_parts.proofs.same_bytes.Given as goal
 
 abbrev pub invariant-loop-i : goal.invariant-loop-i

@@ -2,7 +2,6 @@
 use native.Mathlib.Omega.{arith}
 use Rattle.signature_token.specs.Same.{span_within}
 use Rattle.materialize_type.specs.Materialize.{length_short, length_differs, command_within, list_within, command_differs, list_compared, list_there}
-use borrow.Author.Rules.{rules}
 use Rattle.materialize_type.proofs.same_materialized.Goals as goal
 
 pub overflow_add-k : goal.overflow_add-k

@@ -1,9 +1,8 @@
-use Prim.Native.Nat.{◌+◌, ◌-◌, ◌≤◌}
+use Prim.Native.Nat.{◌+◌, ◌≤◌}
 use native.Mathlib.Omega.{arith}
 use lib.ListN.{length}
-use borrow.Author.Rules.{rules}
 use Rattle.signature_token.specs.Lists.{type_left, left_done}
-use Rattle.signature_token.specs.Passing.{Passing, passing_start, leaf_passed, struct_passed, parameter_passed, wrapped_passed, instantiation_passed}
+use Rattle.signature_token.specs.Passing.{passing_start, leaf_passed, struct_passed, parameter_passed, wrapped_passed, instantiation_passed}
 use Rattle.signature_token.specs.Passing.{leaf_within, struct_within, parameter_within, wrapped_less, instantiation_less, left_room}
 use Rattle.signature_token.proofs.end_of_types.Goals as goal
 use Rattle.signature_token.proofs.end_of_types.Goals.{In-Leaf, In-Struct, In-TypeParameter}

@@ -1,8 +1,6 @@
 -- A type that is plain or wrapped once ends where its widths say; the answer 0 says nothing.
 use native.Mathlib.Omega.{arith}
-use borrow.Author.Rules.{rules}
 use Rattle.signature_token.specs.Token.{at_some}
-use Rattle.signature_token.specs.Ends.{type_room}
 use Rattle.signature_token.specs.Plain.{next_within, plain_ends}
 use Rattle.signature_token.proofs.plain_end.Goals as goal
 

@@ -5,7 +5,6 @@ use Prim.Native.Nat.{◌+◌, ◌≤◌}
 use lib.ListN.{length}
 use Rattle.signature_token.specs.declared.Shape.{Shape}
 use Rattle.signature_token.specs.Token.{least_by, token_by_law, room_by, at_some}
-use borrow.Author.Rules.{rules}
 use Rattle.signature_token.proofs.token_at.Goals as goal
 use Rattle.signature_token.proofs.token_at.Goals.{After-shape_of}
 

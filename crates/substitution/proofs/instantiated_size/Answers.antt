@@ -1,6 +1,5 @@
 -- A leaf is one byte, and any other type is walked as a list of one.
 use native.Mathlib.Omega.{arith}
-use borrow.Author.Rules.{rules}
 use Rattle.signature_token.specs.Token.{at_some}
 use Rattle.signature_token.specs.Passing.{one_type}
 use Rattle.substitution.specs.Size.{leaf_alone, one_size}

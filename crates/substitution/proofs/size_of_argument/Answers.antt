@@ -1,8 +1,6 @@
 -- An argument's bytes are added once its end is found, or need not be where the count is over 65,535 already.
 use native.Mathlib.Omega.{arith}
 use Rattle.signature_token.specs.Ends.{type_room}
-use Rattle.substitution.specs.Size.{argument_added}
-use borrow.Author.Rules.{rules}
 use Rattle.substitution.proofs.size_of_argument.Goals as goal
 
 pub grown-requires : goal.grown-requires

@@ -1,12 +1,10 @@
-use Prim.Native.Nat.{◌+◌, ◌-◌, ◌≤◌}
+use Prim.Native.Nat.{◌+◌, ◌≤◌}
 use native.Mathlib.Omega.{arith}
-use mir.Facts.{Fits-widen}
 use lib.ListN.{length}
-use borrow.Author.Rules.{rules}
 use Rattle.signature_token.specs.Lists.{type_left}
-use Rattle.signature_token.specs.Passing.{Passing, leaf_within, struct_within, parameter_within, wrapped_less, instantiation_less, instantiation_passed, left_room}
+use Rattle.signature_token.specs.Passing.{leaf_within, struct_within, parameter_within, wrapped_less, instantiation_less, instantiation_passed, left_room}
 use Rattle.substitution.specs.Size.{argument_type}
-use Rattle.substitution.specs.Counting.{Counted, passing, counted_start, counted_done, leaf_counted, struct_counted, argument_counted}
+use Rattle.substitution.specs.Counting.{passing, counted_start, counted_done, leaf_counted, struct_counted, argument_counted}
 use Rattle.substitution.specs.Counting.{argument_missing, wrapped_counted, instantiation_counted}
 use Rattle.substitution.proofs.size_of_types.Goals as goal
 use Rattle.substitution.proofs.size_of_types.Goals.{In-Leaf, In-Struct, In-TypeParameter}

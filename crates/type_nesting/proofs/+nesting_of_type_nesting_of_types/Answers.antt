@@ -1,11 +1,10 @@
 use native.Mathlib.Omega.{arith}
-use borrow.Author.Rules.{rules}
 use Rattle.signature_token.specs.TokenLaws.{inner_type, inner_types}
 use Rattle.signature_token.specs.Lists.{next_type}
-use Rattle.signature_token.specs.Ends.{type_measure, list_measure, inner_falls, arguments_fall}
-use Rattle.type_nesting.specs.Nesting.{DeepestAlong, deepest_start, deepest_next, deepest_done, nesting_fits, nestings_fit, leaf_nesting}
+use Rattle.signature_token.specs.Ends.{inner_falls, arguments_fall}
+use Rattle.type_nesting.specs.Nesting.{deepest_start, deepest_next, deepest_done, nesting_fits, nestings_fit, leaf_nesting}
 use Rattle.type_nesting.specs.Nesting.{wrapped_nesting, struct_nesting, instantiation_nesting, parameter_nesting}
-use Prim.Native.Nat.{ℕ, ◌<◌, ◌+◌, ◌-◌}
+use Prim.Native.Nat.{◌+◌}
 use Rattle.type_nesting.proofs.+nesting_of_type_nesting_of_types.Goals as goal
 
 pub nesting_of_type-token_at-requires : goal.nesting_of_type-token_at-requires

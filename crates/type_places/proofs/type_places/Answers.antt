@@ -1,8 +1,7 @@
-use Prim.Native.Nat.{◌-◌}
 use native.Mathlib.Omega.{arith}
 use Rattle.signature_token.specs.Token.{at_some}
 use Rattle.signature_token.specs.Lists.{next_type}
-use Rattle.type_places.specs.Places.{Placing, placing_start, placing_next, placing_done}
+use Rattle.type_places.specs.Places.{placing_start, placing_next, placing_done}
 use Rattle.type_places.proofs.type_places.Goals as goal
 
 pub loop-i-init : goal.loop-i-init

@@ -1,9 +1,6 @@
 -- The places of the types that stand there are written in order, and the answer is where the last one ends.
 use Prim.Native.Nat.{◌-◌}
-use native.Mathlib.Omega.{arith}
-use Rattle.signature_token.specs.Token.{at_some}
-use Rattle.signature_token.specs.Lists.{next_type}
-use Rattle.type_places.specs.Places.{Placing, placing_start, placing_next, placing_done}
+use Rattle.type_places.specs.Places.{Placing}
 use Rattle.type_places.proofs.type_places.Given as goal
 
 abbrev pub invariant-loop-i : goal.invariant-loop-i

@@ -1,7 +1,6 @@
 -- `peek` finds the top of the stack that the area holds.
 use native.Mathlib.Omega.{arith}
 use Rattle.type_stack.specs.Tops.{top_number, top_none, top_some}
-use borrow.Author.Rules.{rules}
 use Rattle.type_stack.proofs.peek.Goals as goal
 
 pub returns-then-weight-eq0 : goal.returns-then-weight-eq0

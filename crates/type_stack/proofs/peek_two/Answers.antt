@@ -1,6 +1,5 @@
 -- `peek_two` finds the top two: the second is the top of what is below the first.
 use Rattle.type_stack.specs.Tops.{topped, two_no_first, two_no_second, two_both}
-use borrow.Author.Rules.{rules}
 use Rattle.type_stack.proofs.peek_two.Goals as goal
 
 pub returns-in_default : goal.returns-in_default

@@ -1,7 +1,6 @@
 -- The answer is `is_integer` of the type that stands there: by its command for a leaf, and false for all others.
 use mathlib.Core.Path.{sym, ap, ◌∙◌}
 use Rattle.type_tests.specs.Kinds.{integer_of, integer_by}
-use borrow.Author.Rules.{rules}
 use Rattle.type_tests.proofs.is_integer.Goals as goal
 
 pub returns-in-Leaf : goal.returns-in-Leaf

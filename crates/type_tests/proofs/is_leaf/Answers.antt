@@ -3,7 +3,6 @@ use mathlib.Core.Path.{◌≡◌}
 use Prim.Native.Nat.{ℕ}
 use native.Mathlib.Omega.{arith}
 use Rattle.type_tests.specs.Kinds.{leaf_test, leaf_not}
-use borrow.Author.Rules.{rules}
 use Rattle.type_tests.proofs.is_leaf.Goals as goal
 
 pub returns-in-Leaf : goal.returns-in-Leaf

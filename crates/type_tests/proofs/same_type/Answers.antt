@@ -1,7 +1,6 @@
-use Prim.Native.Nat.{◌-◌, ◌≤◌}
 use native.Mathlib.Omega.{arith}
 use Rattle.signature_token.specs.Token.{at_some}
-use Rattle.signature_token.specs.Same.{Alike, alike_more, span_within, same_short, same_differs, same_alike}
+use Rattle.signature_token.specs.Same.{alike_more, span_within, same_short, same_differs, same_alike}
 use Rattle.type_tests.proofs.same_type.Goals as goal
 
 pub overflow_sub-b : goal.overflow_sub-b
@@ -23,11 +22,10 @@ pub returns-then-a-x : goal.returns-then-a-x
 returns-then-a-x c = same_differs c.loop-i.i c.loop-i-test.true c.if-a-x.true
 
 pub loop-i-preserved : goal.loop-i-preserved
-loop-i-preserved c =
-    (
-      omega arith,
-      alike_more c.args.a.now c.args.x c.args.b.now c.args.y c.loop-i.i c.loop-i.invariant.1 c.if-a-x.false,
-    )
+loop-i-preserved c = (
+  omega arith,
+  alike_more c.args.a.now c.args.x c.args.b.now c.args.y c.loop-i.i c.loop-i.invariant.1 c.if-a-x.false,
+)
 
 pub returns : goal.returns
 returns c = same_alike c.loop-i-test.false c.if-b-y.false c.loop-i.invariant.1

@@ -1,8 +1,6 @@
 -- The answer is whether the two types are equal: their bytes are compared one by one, and equal bytes are equal types.
 use Prim.Native.Nat.{◌-◌, ◌≤◌}
-use native.Mathlib.Omega.{arith}
-use Rattle.signature_token.specs.Token.{at_some}
-use Rattle.signature_token.specs.Same.{Alike, alike_more, span_within, same_short, same_differs, same_alike}
+use Rattle.signature_token.specs.Same.{Alike}
 use Rattle.type_tests.proofs.same_type.Given as goal
 
 abbrev pub invariant-loop-i : goal.invariant-loop-i
