@@ -2,19 +2,16 @@
 -- and the pushes of a type that the code knows by its command, by its place or by another first byte.
 use Rattle.std.proofs.Math.Path.{◌≡◌, ap, sym}
 use Rattle.std.specs.Prelude.{refl, Bool, ◌&&◌, ℕ, ◌+◌, ◌-◌, ◌≤◌, ◌<◌, length, take, drop}
-use Rattle.std.proofs.Common.{◌∙◌, inl, inr}
+use Rattle.std.proofs.Common.{◌∙◌}
 use mathlib.Core.List.{List, [], ◌∷◌}
 use Rattle.std.proofs.Math.Bool.{true, false}
 use Rattle.std.proofs.Math.Option.{some, none}
 use native.Mathlib.Omega.{arith}
-use types.Run.{OneOf}
-use denote.Enum.Declared.{tag_of}
 use Rattle.definitions.specs.SignatureToken.{SignatureToken, Bool', U8, U64, U128, Address, Signer, Vector as VectorOf, Struct as StructOf, StructInstantiation as InstantiationOf, Reference as ReferenceOf, MutableReference as MutableReferenceOf, TypeParameter as ParameterOf, encode, outer}
 use Rattle.definitions.specs.Substitution.{inner, mutable_inner, reference_to}
 use Rattle.definitions.specs.Machine.{push}
 use Rattle.definitions.specs.Places.{At, TypeAt}
 use Rattle.theorems.specs.AtLaws.{at_next, at_part}
-use Rattle.type_tests.specs.contracts.Referent.{the_type}
 use Rattle.type_tests.specs.declared.Referent.{Referent}
 use Rattle.type_tests.specs.declared.Referent.TheVariants.{Reference, MutableReference, Value}
 use Rattle.signature_token.specs.Token.{token_of, encode_pos}

@@ -1,5 +1,5 @@
 -- What a property of types must have, to be had by every type that the steps push: it holds of the types that the unit makes, of their
--- vectors and references, and passes from a reference to what it refers to. The steps are then sound for it (Steps.antt).
+-- vectors and references, and passes from a reference to what it refers to. The steps are then sound for it (Steps.antt of proofs/).
 use Rattle.std.specs.Prelude.{Bool, ℕ}
 use mathlib.Core.List.{[], ◌∷◌, Memᴰ}
 use Rattle.std.proofs.Math.Option.{some}

@@ -105,9 +105,6 @@ covers_among (r ∷ rs) cs t n m =
 pub table_look : (n : ℕ) → T (table_refusal n) → T (look_refusal n)
 table_look n t = covers_among table_refusals look_refusals tt n t
 
-pub table_usage : (n : ℕ) → T (table_refusal n) → T (usage_refusal n)
-table_usage n t = covers_among table_refusals usage_refusals tt n t
-
 pub look_step : (n : ℕ) → T (look_refusal n) → T (step_refusal n)
 look_step n t = covers_among look_refusals step_refusals tt n t
 

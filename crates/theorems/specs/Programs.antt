@@ -1,6 +1,7 @@
 -- What a program does to the stack, by one predicate and one law for each thing that a program does. `Sound I A p q m`: on a stack whose
 -- every type has I, the program takes p types off and puts q on, and leaves such a stack; or it is refused with a status that a step may
 -- have, and with EMPTY_STACK only where fewer than p stand there.
+-- What takes types off is in Programs.antt of proofs/.
 use Rattle.std.specs.Prelude.{Bool, ◌≡◌, T, leb, length}
 use Rattle.std.proofs.Math.Bool.{true, false}
 use mathlib.Core.List.{List, [], ◌∷◌, Memᴰ}
@@ -12,8 +13,8 @@ use Rattle.status.specs.declared.StatusCode.TheVariants.{NO_ROOM}
 use Rattle.status.specs.Verdict.{status_number}
 use Rattle.definitions.specs.Result.{Result, ok, err}
 use Rattle.definitions.specs.SignatureToken.{SignatureToken}
-use Rattle.definitions.specs.Machine.{Program, ret, refuse, take, put, ◌>>=◌, done, pop, push, look, check, pop_one, pop_each, push_one, push_each, pop_n, push_n, Stack, Outcome, got, refused, weight, run}
-use Rattle.theorems.specs.All.{All, none, more}
+use Rattle.definitions.specs.Machine.{Program, ret, refuse, take, put, ◌>>=◌, done, push, look, check, push_one, push_each, push_n, Stack, Outcome, got, refused, weight, run}
+use Rattle.theorems.specs.All.{All, more}
 use Rattle.theorems.specs.Numbers.{look_refusal, step_refusal, look_step, look_not_empty}
 use Rattle.theorems.specs.Lookups.{LooksUp}
 
@@ -89,18 +90,6 @@ module _ {I : SignatureToken → Type 0} where
         go (err w) e = refusing w (h.refuses w e)
 
   module _ {B : Type 0} where
-    pub popping : {p q : ℕ} {f : SignatureToken → Program B} → ((t : SignatureToken) → I t → Sound I B p q (f t)) → Sound I B (suc p) q (pop >>= f)
-    unfolding run ◌>>=◌ pop
-    popping {p} {q} {f} h = record { runs = go }
-      where
-        on : (s : Stack) (t : SignatureToken) (o : Outcome B) → After I s p q o → After I (t ∷ s) (suc p) q o
-        on s t (got b s') k = (omega arith, omega arith, k.2)
-        on s t (refused w) k = (λ x. omega (arith, k.0 x), k.1)
-
-        go : (area : ℕ) (s : Stack) → All I s → After I s (suc p) q (run area (pop >>= f) s)
-        go area [] none = (λ x. omega arith, tt)
-        go area (t ∷ s) (more i is) = on s t (run area (f t) s) ((h t i).runs area s is)
-
     pub checking : {p q : ℕ} (b : Bool) (w : StatusCode) {f : Unit {0} → Program B} →
         T (look_refusal (status_number w)) → ((a : Unit {0}) → Sound I B p q (f a)) → Sound I B p q (check b w >>= f)
     unfolding ◌>>=◌ check
@@ -126,16 +115,6 @@ module _ {I : SignatureToken → Type 0} where
 
   -- ── the loops ──
 
-  module _ (w : StatusCode) (t : T (look_refusal (status_number w))) (f : SignatureToken → Result SignatureToken) (h : (a : SignatureToken) → LooksUp (f a)) where
-    sound_pop_one : (a : SignatureToken) → Sound I (Unit {0}) 1 0 (pop_one w f a)
-    unfolding pop_one
-    sound_pop_one a = popping λ b i. looking (h a) λ c e. checked _ _ t
-
-    pub sound_pop_each : (ts : List SignatureToken) → Sound I (Unit {0}) (length ts) 0 (pop_each w f ts)
-    unfolding pop_each
-    sound_pop_each [] = nothing
-    sound_pop_each (a ∷ ts) = counted (omega arith) refl (then (sound_pop_one a) λ _. sound_pop_each ts)
-
   pub sound_push_each : (f : SignatureToken → Result SignatureToken) (ts : List SignatureToken) → ((a : SignatureToken) → LooksUp (f a)) →
       ((a b : SignatureToken) → Memᴰ a ts → f a ≡ ok b → I b) → Sound I (Unit {0}) 0 (length ts) (push_each f ts)
   unfolding push_each push_one
@@ -143,11 +122,6 @@ module _ {I : SignatureToken → Type 0} where
   sound_push_each f (a ∷ ts) h k =
       counted refl (omega arith)
       (then_put (looking (h a) λ b e. pushing b (k a b (Memᴰ.head refl) e)) λ _. sound_push_each f ts h λ b c m. k b c (Memᴰ.tail m))
-
-  pub sound_pop_n : (n : ℕ) → Sound I (Unit {0}) n 0 (pop_n n)
-  unfolding pop_n
-  sound_pop_n zero = nothing
-  sound_pop_n (suc n) = popping λ t i. sound_pop_n n
 
   pub sound_push_n : (n : ℕ) (t : SignatureToken) → I t → Sound I (Unit {0}) 0 n (push_n n t)
   unfolding push_n

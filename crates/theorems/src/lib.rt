@@ -1,2 +1,2 @@
-// No code: what holds of the definitions is in specs/.
+// No code: what is said of the definitions is in specs/, and what edits of must-fail/ break is proved in proofs/.
 #![tactic(auto)]

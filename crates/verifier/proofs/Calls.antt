@@ -16,7 +16,7 @@ use Rattle.definitions.specs.CompiledUnit.{CompiledUnit}
 use Rattle.definitions.specs.Reader.{read_unit, compiled_unit}
 use Rattle.definitions.specs.Verify.{stack_usage, type_safety, both_passes}
 use Rattle.definitions.specs.Verdicts.{after_reading, reading, read_verdict, stack_usage_verdict, types_verdict, both_verdict, area_after}
-use Rattle.theorems.specs.ReadUnit.{read_unit_stops}
+use Rattle.theorems.proofs.ReadUnit.{read_unit_stops}
 use Rattle.unit.specs.declared.View.{View}
 use Rattle.unit.specs.declared.ReadUnit.{ReadUnit}
 use Rattle.unit.specs.Views.{answer_of, UnitRead}

@@ -2,7 +2,6 @@
 use mathlib.Core.Path.{sym}
 use lib.Seq.{length-take-le}
 use Rattle.ability_views.specs.Function.{context_handles, abilities_here}
-use borrow.Author.Rules.{rules}
 use Rattle.ability_views.proofs.abilities.Goals as goal
 
 pub slice_bounds-abilities-end : goal.slice_bounds-abilities-end

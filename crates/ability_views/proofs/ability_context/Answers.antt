@@ -2,7 +2,6 @@
 use native.Mathlib.Omega.{arith}
 use Rattle.unit_tables.specs.Tables.{unit_short}
 use Rattle.ability_views.specs.Function.{context_room, context_here}
-use borrow.Author.Rules.{rules}
 use Rattle.ability_views.proofs.ability_context.Goals as goal
 
 pub overflow_add-from : goal.overflow_add-from

@@ -2,7 +2,6 @@
 use native.Mathlib.Omega.{arith}
 use Rattle.unit_tables.specs.Tables.{table_fits, struct_handles_in}
 use Rattle.ability_views.specs.Lookups.{handle_past, handle_within, handle_here}
-use borrow.Author.Rules.{rules}
 use Rattle.ability_views.proofs.struct_handle_at.Goals as goal
 
 pub returns-then-view-i : goal.returns-then-view-i

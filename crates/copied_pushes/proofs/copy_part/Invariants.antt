@@ -1,9 +1,7 @@
 -- `copy_part` leaves the part over the front of `out`.
 use Prim.Native.Nat.{◌-◌}
-use mathlib.Core.Path.{sym}
-use native.Mathlib.Omega.{arith}
-use Rattle.type_stack.specs.Held.{part, part_length}
-use Rattle.copied_pushes.proofs.Copying.{Copying, copying_start, copying_more, part_byte, copied_front}
+use Rattle.type_stack.specs.Held.{part}
+use Rattle.copied_pushes.proofs.Copying.{Copying}
 use Rattle.copied_pushes.proofs.copy_part.Given as goal
 
 abbrev pub invariant-loop-i : goal.invariant-loop-i

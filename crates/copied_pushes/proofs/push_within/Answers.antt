@@ -3,7 +3,6 @@ use native.Mathlib.Omega.{arith}
 use mathlib.Core.Path.{sym}
 use Rattle.type_stack.specs.Held.{part_length}
 use Rattle.type_stack.specs.Pushing.{push_sealed}
-use borrow.Author.Rules.{rules}
 use Rattle.copied_pushes.proofs.push_within.Goals as goal
 
 pub returns : goal.returns

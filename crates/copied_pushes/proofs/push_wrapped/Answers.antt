@@ -5,7 +5,6 @@ use native.Mathlib.Omega.{arith}
 use mathlib.Core.List.{◌∷◌}
 use Rattle.type_stack.specs.Held.{part_length}
 use Rattle.type_stack.specs.Pushing.{push_over, push_lent_under}
-use borrow.Author.Rules.{rules}
 use Rattle.copied_pushes.proofs.push_wrapped.Goals as goal
 
 pub returns-then-area-weight : goal.returns-then-area-weight

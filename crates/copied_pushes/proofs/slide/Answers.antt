@@ -1,8 +1,7 @@
-use Prim.Native.Nat.{◌-◌}
 use mathlib.Core.Path.{refl, sym, ◌∙◌}
 use native.Mathlib.Omega.{arith}
-use Rattle.type_stack.specs.Held.{part, part_length}
-use Rattle.copied_pushes.proofs.Copying.{Copying, copying_start, copying_more, copying_end, copying_ahead, part_byte}
+use Rattle.type_stack.specs.Held.{part_length}
+use Rattle.copied_pushes.proofs.Copying.{copying_start, copying_more, copying_end, copying_ahead, part_byte}
 use Rattle.copied_pushes.proofs.slide.Goals as goal
 
 pub loop-i-init : goal.loop-i-init

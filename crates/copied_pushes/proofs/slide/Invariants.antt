@@ -1,9 +1,7 @@
 -- `slide` leaves the part over the area from weight on: it reads ahead of what it writes.
 use Prim.Native.Nat.{◌-◌}
-use mathlib.Core.Path.{refl, sym, ◌∙◌}
-use native.Mathlib.Omega.{arith}
-use Rattle.type_stack.specs.Held.{part, part_length}
-use Rattle.copied_pushes.proofs.Copying.{Copying, copying_start, copying_more, copying_end, copying_ahead, part_byte}
+use Rattle.type_stack.specs.Held.{part}
+use Rattle.copied_pushes.proofs.Copying.{Copying}
 use Rattle.copied_pushes.proofs.slide.Given as goal
 
 abbrev pub invariant-loop-i : goal.invariant-loop-i

@@ -3,7 +3,6 @@ use mathlib.Core.Path.{sym}
 use Rattle.type_stack.specs.Held.{part, part_length}
 use Rattle.type_stack.specs.Spliced.{lent}
 use Rattle.type_stack.specs.Pushing.{sealed}
-use borrow.Author.Rules.{rules}
 use Rattle.copied_pushes.proofs.write_part.Goals as goal
 
 pub returns : goal.returns

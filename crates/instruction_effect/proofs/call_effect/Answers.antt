@@ -1,7 +1,6 @@
 -- The counts of the two signatures, looked up one after the other.
 use mathlib.Core.Path.{◌∙◌}
 use Rattle.instruction_effect.proofs.Looked.{refused, found, signature_told, call_by_counts}
-use borrow.Author.Rules.{rules}
 use Rattle.instruction_effect.proofs.call_effect.Goals as goal
 
 pub returns-in-Refused : goal.returns-in-Refused

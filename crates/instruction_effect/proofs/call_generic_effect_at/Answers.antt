@@ -2,7 +2,6 @@
 use mathlib.Core.Path.{sym}
 use Rattle.handle_views.specs.Told.{function_instantiation_law, is_told}
 use Rattle.instruction_effect.proofs.Looked.{refused, found}
-use borrow.Author.Rules.{rules}
 use Rattle.instruction_effect.proofs.call_generic_effect_at.Goals as goal
 
 pub returns-in-Refused : goal.returns-in-Refused

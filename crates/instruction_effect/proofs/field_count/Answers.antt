@@ -1,7 +1,6 @@
 -- The count of the fields of a definition that was found, or its refusal.
 use Rattle.definitions.specs.StackUsage.{field_count_at}
 use Rattle.instruction_effect.proofs.Looked.{definition_told}
-use borrow.Author.Rules.{rules}
 use Rattle.instruction_effect.proofs.field_count.Goals as goal
 
 pub returns-in-Refused : goal.returns-in-Refused

@@ -3,7 +3,6 @@ use mathlib.Core.Path.{sym}
 use Rattle.handle_views.specs.Told.{struct_instantiation, is_told}
 use Rattle.definitions.specs.StackUsage.{field_count_of_instantiation}
 use Rattle.instruction_effect.proofs.Looked.{refused, found}
-use borrow.Author.Rules.{rules}
 use Rattle.instruction_effect.proofs.field_count_of_instantiation.Goals as goal
 
 pub returns-in-Refused : goal.returns-in-Refused

@@ -4,7 +4,6 @@ use native.Mathlib.Omega.{arith}
 use Rattle.definitions.specs.StackUsage.{instruction_effect}
 use Rattle.record_views.specs.Records.{instruction_of}
 use Rattle.instruction_effect.proofs.Looked.{looked_up, vec_unpack_law}
-use borrow.Author.Rules.{rules}
 use Rattle.instruction_effect.proofs.looked_up_effect.Goals as goal
 
 pub returns-in-1 : goal.returns-in-1

@@ -1,6 +1,5 @@
 -- The count goes to the pops; a refusal stays.
 use Rattle.definitions.specs.Result.{◌>>?◌}
-use borrow.Author.Rules.{rules}
 use Rattle.instruction_effect.proofs.pack_effect.Goals as goal
 
 pub returns-in-Refused : goal.returns-in-Refused

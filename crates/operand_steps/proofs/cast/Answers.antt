@@ -3,7 +3,6 @@ use mathlib.Core.Path.{sym, ◌∙◌}
 use Rattle.definitions.specs.TypeSafety as step
 use Rattle.type_stack.specs.Stepping.{pop_none, pop_then, check_then, check_bad}
 use Rattle.operand_steps.specs.Operands.{operands, operand, push_leaf}
-use borrow.Author.Rules.{rules}
 use Rattle.operand_steps.proofs.cast.Goals as goal
 
 pub returns-in_default : goal.returns-in_default

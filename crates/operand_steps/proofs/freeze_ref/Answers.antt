@@ -4,7 +4,6 @@ use native.Mathlib.Omega.{arith}
 use Rattle.definitions.specs.TypeSafety as step
 use Rattle.type_stack.specs.Stepping.{pop_none, pop_then, look_then, look_bad}
 use Rattle.operand_steps.specs.Operands.{operands, top_room, refers_mutably, mutable_is, no_mutable, push_frozen}
-use borrow.Author.Rules.{rules}
 use Rattle.operand_steps.proofs.freeze_ref.Goals as goal
 
 pub returns-in_default : goal.returns-in_default

@@ -5,7 +5,6 @@ use Rattle.definitions.specs.TypeSafety as step
 use Rattle.signature_token.specs.TokenLaws.{is_bool}
 use Rattle.type_stack.specs.Stepping.{nested, pop_none, pop_then, check_then, check_bad}
 use Rattle.operand_steps.specs.Operands.{operands, operand, leaf_type, push_top}
-use borrow.Author.Rules.{rules}
 use Rattle.operand_steps.proofs.negation.Goals as goal
 
 pub returns-in_default : goal.returns-in_default

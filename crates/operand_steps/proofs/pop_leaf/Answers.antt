@@ -3,7 +3,6 @@ use mathlib.Core.Path.{sym, ◌∙◌}
 use Rattle.definitions.specs.TypeSafety.{pop_expecting}
 use Rattle.type_stack.specs.Stepping.{pop_none, pop_then, check_last, check_last_bad}
 use Rattle.operand_steps.specs.Operands.{operands, operand}
-use borrow.Author.Rules.{rules}
 use Rattle.operand_steps.proofs.pop_leaf.Goals as goal
 
 pub returns-in_default : goal.returns-in_default

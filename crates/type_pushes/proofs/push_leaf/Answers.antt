@@ -3,7 +3,6 @@ use native.Mathlib.Omega.{arith}
 use mathlib.Core.Path.{refl}
 use mathlib.Core.List.{[], ◌∷◌}
 use Rattle.type_stack.specs.Pushing.{push_over, push_sealed}
-use borrow.Author.Rules.{rules}
 use Rattle.type_pushes.proofs.push_leaf.Goals as goal
 
 pub returns-then-area-weight-lt3 : goal.returns-then-area-weight-lt3

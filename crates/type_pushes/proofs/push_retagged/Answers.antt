@@ -1,6 +1,5 @@
 -- `push_retagged` pushes the type that stands there with its new first byte.
 use Rattle.type_stack.specs.Pushing.{push_retagged}
-use borrow.Author.Rules.{rules}
 use Rattle.type_pushes.proofs.push_retagged.Goals as goal
 
 pub returns : goal.returns

@@ -1,6 +1,6 @@
 -- A clean walk is the verdict of both passes. Else a refusal of stack usage is the verdict; where it accepts, that of types is.
 use mathlib.Core.Path.{sym}
-use Rattle.theorems.specs.Clean.{clean_both}
+use Rattle.theorems.proofs.Clean.{clean_both}
 use Rattle.verifier.proofs.Calls.{usage_refused, usage_accepted}
 use borrow.Author.Rules.{rules}
 use Rattle.verifier.proofs.verify_passes.Statement.{statement}

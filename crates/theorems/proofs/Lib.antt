@@ -1,0 +1,21 @@
+-- The modules of this crate's proofs.
+pub mod Numbers
+pub mod Programs
+pub mod Steps
+pub mod Walks
+pub mod ReadsBytes
+pub mod ReadRecords
+pub mod ReadUnit
+pub mod KeptNesting
+pub mod Nesting
+pub mod Statuses
+pub mod WalkHeights
+pub mod NeverEmptyStack
+pub mod Demand3
+pub mod Demand3Whole
+pub mod HeightAfter
+pub mod Clean
+pub mod Demand3Bytes
+pub mod CallNumbers
+pub mod Blank
+pub mod Unread
