@@ -1,6 +1,5 @@
 -- The two tests in their order, by the laws of heights.
 use native.Mathlib.Omega.{arith}
-use borrow.Author.Rules.{rules}
 use Rattle.stack_usage_verifier.proofs.Heights.{sinks, overflows, moves}
 use Rattle.stack_usage_verifier.proofs.height_after.Goals as goal
 

@@ -1,15 +1,8 @@
 use mathlib.Core.Path.{◌∙◌}
-use Prim.Native.Nat.{◌-◌}
 use native.Mathlib.Omega.{arith}
-use borrow.Author.Rules.{rules}
-use Rattle.definitions.specs.Reader.{compiled_unit}
-use Rattle.unit.specs.Views.{UnitRead}
 use Rattle.unit_tables.specs.Tables.{table_count, blocks_in}
-use Rattle.stack_usage_verifier.proofs.Blocks.{InBlocks, blocks_start, blocks_next, blocks_refused, blocks_done}
+use Rattle.stack_usage_verifier.proofs.Blocks.{blocks_start, blocks_next, blocks_refused, blocks_done}
 use Rattle.stack_usage_verifier.proofs.verify.Goals as goal
-
-enum_told : tie.Need-enum-told invariant-loop decreases-loop
-enum_told c = search rules
 
 pub loop-block_id-init : goal.loop-block_id-init
 loop-block_id-init c = λ p. blocks_start _

@@ -1,12 +1,8 @@
 -- The loop's invariant is `InBlocks`: the blocks that are left decide the unit. The measure is how many they are.
-use mathlib.Core.Path.{◌∙◌}
 use Prim.Native.Nat.{◌-◌}
-use native.Mathlib.Omega.{arith}
-use borrow.Author.Rules.{rules}
 use Rattle.definitions.specs.Reader.{compiled_unit}
 use Rattle.unit.specs.Views.{UnitRead}
-use Rattle.unit_tables.specs.Tables.{table_count, blocks_in}
-use Rattle.stack_usage_verifier.proofs.Blocks.{InBlocks, blocks_start, blocks_next, blocks_refused, blocks_done}
+use Rattle.stack_usage_verifier.proofs.Blocks.{InBlocks}
 use Rattle.stack_usage_verifier.proofs.verify.Given as goal
 
 abbrev pub invariant-loop-block_id : goal.invariant-loop-block_id

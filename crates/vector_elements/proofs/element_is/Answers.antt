@@ -1,5 +1,4 @@
 -- The element is compared where there is one; anything else does not refer to a vector.
-use borrow.Author.Rules.{rules}
 use Rattle.vector_elements.specs.Elements.{element_span, element_room, element_same, element_not}
 use Rattle.vector_elements.proofs.element_is.Goals as goal
 

@@ -1,5 +1,4 @@
 -- Each answer follows from that of `referent_at`, and then of the look at the vector.
-use borrow.Author.Rules.{rules}
 use Rattle.operand_steps.specs.Operands.{reference_type, mutable_type}
 use Rattle.vector_elements.specs.Elements.{by_reference, by_mutable, not_mutable, no_referent}
 use Rattle.vector_elements.proofs.get_vector_element_type.Goals as goal

@@ -1,5 +1,4 @@
 -- The element is compared where there is a vector; anything else is not one.
-use borrow.Author.Rules.{rules}
 use Rattle.vector_elements.specs.Elements.{vector_span, vector_room, vector_same, vector_not}
 use Rattle.vector_elements.proofs.vector_is.Goals as goal
 
