@@ -5,7 +5,7 @@ use Rattle.std.proofs.Common.{sym, ap, ◌∙◌, arith, ltb-true}
 use Rattle.definitions.specs.Result.{ok, at}
 use Rattle.definitions.specs.SignatureToken.{Signature}
 use Rattle.definitions.specs.CompiledUnit as defs
-use Rattle.definitions.specs.Reader.{compiled_unit, items, types, ability, signature_of, function_view}
+use Rattle.definitions.specs.Reader.{compiled_unit, items, ability, signature_of, function_view}
 use Rattle.record_views.specs.Records.{ListIs}
 use Rattle.unit.specs.declared.View.{View}
 use Rattle.record_views.specs.declared.TypeList.{TypeList}

@@ -1,7 +1,7 @@
 -- How the answers of the look-ups stand for those of the definitions.
 use Rattle.std.specs.Prelude.{List, ◌≡◌, ℕ}
 use Rattle.status.specs.declared.StatusCode.{StatusCode}
-use Rattle.definitions.specs.Result.{Result, ok, err, at}
+use Rattle.definitions.specs.Result.{Result, ok, err}
 use Rattle.definitions.specs.SignatureToken.{SignatureToken, Signature, encode}
 use Rattle.definitions.specs.CompiledUnit as defs
 use Rattle.definitions.specs.Places.{At}

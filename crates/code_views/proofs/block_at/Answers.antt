@@ -2,7 +2,6 @@
 use native.Mathlib.Omega.{arith}
 use Rattle.unit_tables.specs.Tables.{table_fits, blocks_in}
 use Rattle.code_views.specs.Lookups.{block_room, block_here}
-use borrow.Author.Rules.{rules}
 use Rattle.code_views.proofs.block_at.Goals as goal
 
 pub place-p-requires : goal.place-p-requires

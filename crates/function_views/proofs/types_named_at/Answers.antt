@@ -3,7 +3,6 @@ use mathlib.Core.Path.{◌∙◌}
 use Rattle.unit_tables.specs.Tables.{table_fits, signatures_in}
 use Rattle.function_views.specs.Named.{named_below, named_here}
 use Rattle.unit_views.specs.Lookups.{signature_room, signature_here}
-use borrow.Author.Rules.{rules}
 use Rattle.function_views.proofs.types_named_at.Goals as goal
 
 pub place-p-requires : goal.place-p-requires

@@ -3,7 +3,6 @@ use mathlib.Core.Path.{sym, ap}
 use Rattle.handle_views.specs.declared.PairAt.TheVariants.{OutOfTable}
 use Rattle.handle_views.specs.Lookups.{function_handles_fit, function_handle_is}
 use Rattle.handle_views.specs.Answers.{function_handle_answer}
-use borrow.Author.Rules.{rules}
 use Rattle.handle_views.proofs.function_handle_at.Goals as goal
 
 pub pair_at-requires : goal.pair_at-requires

@@ -3,7 +3,6 @@ use mathlib.Core.Path.{sym, ap}
 use Rattle.handle_views.specs.declared.PairAt.TheVariants.{OutOfTable}
 use Rattle.handle_views.specs.Lookups.{function_instantiations_fit, function_instantiation_is}
 use Rattle.handle_views.specs.Answers.{function_instantiation_answer}
-use borrow.Author.Rules.{rules}
 use Rattle.handle_views.proofs.function_instantiation_at.Goals as goal
 
 pub pair_at-requires : goal.pair_at-requires

@@ -3,7 +3,6 @@ use mathlib.Core.Path.{sym, ap}
 use Rattle.handle_views.specs.declared.PairAt.TheVariants.{OutOfTable}
 use Rattle.handle_views.specs.Lookups.{struct_instantiations_fit, struct_instantiation_is, struct_instantiation_script}
 use Rattle.handle_views.specs.Answers.{struct_instantiation_answer}
-use borrow.Author.Rules.{rules}
 use Rattle.handle_views.proofs.struct_instantiation_at.Goals as goal
 
 pub pair_at-requires : goal.pair_at-requires

@@ -1,6 +1,4 @@
 -- Either form of the type is compared by the call for that form.
-use borrow.Author.Rules.{rules}
-use Rattle.signature_token.specs.Same.{spanned}
 use Rattle.list_steps.specs.Pops.{instantiated_compared, written_same, written_differs}
 use Rattle.list_steps.proofs.compare.Goals as goal
 

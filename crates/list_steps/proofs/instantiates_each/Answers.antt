@@ -1,6 +1,5 @@
 -- The size of all of them is told exactly where each of them is instantiated.
 use Rattle.substitution.specs.declared.Size.TheVariants.{Bytes, Past}
-use borrow.Author.Rules.{rules}
 use Rattle.record_views.specs.Reread.{types_at}
 use Rattle.list_steps.specs.Made.{sizes_tell}
 use Rattle.list_steps.proofs.instantiates_each.Goals as goal

@@ -1,6 +1,5 @@
 use native.Mathlib.Omega.{arith}
-use borrow.Author.Rules.{rules}
-use Rattle.list_steps.specs.Pops.{Popping, popping_start, popping_type, popping_next, popping_bad, popping_end}
+use Rattle.list_steps.specs.Pops.{popping_start, popping_type, popping_next, popping_bad, popping_end}
 use Rattle.list_steps.proofs.pop_places.Goals as goal
 
 pub loop-left-init : goal.loop-left-init
@@ -11,6 +10,9 @@ offset_bounds-places-left c = omega (arith, c.loop-left.invariant.most)
 
 pub bounds-places-left : goal.bounds-places-left
 bounds-places-left c = omega (arith, c.loop-left.invariant.most)
+
+pub pop_one-requires-clause-type_at : goal.pop_one-requires-clause-type_at
+pop_one-requires-clause-type_at c = popping_type c.loop-left.invariant c.loop-left-test.true c.widest.ensures.0 c.requires.arguments
 
 pub returns-in-Refused : goal.returns-in-Refused
 returns-in-Refused c =

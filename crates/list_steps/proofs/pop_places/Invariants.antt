@@ -1,7 +1,5 @@
 -- One pop for each turn, of the last place that is left; a refusal ends the loop.
-use native.Mathlib.Omega.{arith}
-use borrow.Author.Rules.{rules}
-use Rattle.list_steps.specs.Pops.{Popping, popping_start, popping_type, popping_next, popping_bad, popping_end}
+use Rattle.list_steps.specs.Pops.{Popping}
 use Rattle.list_steps.proofs.pop_places.Given as goal
 
 abbrev pub invariant-loop-left : goal.invariant-loop-left

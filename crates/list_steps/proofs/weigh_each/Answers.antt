@@ -1,7 +1,5 @@
-use Prim.Native.Nat.{◌-◌}
 use native.Mathlib.Omega.{arith}
-use borrow.Author.Rules.{rules}
-use Rattle.list_steps.specs.Pushes.{Weighing, weighing_start, weighing_type, weighing_past, weighing_small, weighing_full, weighing_next, weighing_done}
+use Rattle.list_steps.specs.Pushes.{weighing_start, weighing_type, weighing_past, weighing_small, weighing_full, weighing_next, weighing_done}
 use Rattle.list_steps.proofs.weigh_each.Goals as goal
 
 pub loop-i-init : goal.loop-i-init
@@ -32,12 +30,12 @@ overflow_add-len c =
 
 pub returns-then-room-after : goal.returns-then-room-after
 returns-then-room-after c =
-    weighing_full c.loop-i.inv c.loop-i-test.true c.instantiated_size-size.ensures
+    weighing_full c.loop-i.invariant c.loop-i-test.true c.instantiated_size-size.ensures
     c.in-Bytes.is c.if-room-after.true
 
 pub loop-i-preserved : goal.loop-i-preserved
 loop-i-preserved c =
-    weighing_next c.loop-i.inv c.loop-i-test.true c.instantiated_size-size.ensures
+    weighing_next c.loop-i.invariant c.loop-i-test.true c.instantiated_size-size.ensures
     c.in-Bytes.is c.requires.weight_le_room.1 c.if-room-after.false
 
 pub returns : goal.returns

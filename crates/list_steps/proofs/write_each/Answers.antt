@@ -1,7 +1,5 @@
-use Prim.Native.Nat.{◌-◌}
-use native.Mathlib.Omega.{arith}
 use borrow.Author.Rules.{rules}
-use Rattle.list_steps.specs.Pushes.{Writing, writing_start, writing_fits, writing_room, writing_next, writing_done}
+use Rattle.list_steps.specs.Pushes.{writing_start, writing_fits, writing_room, writing_next, writing_done}
 use Rattle.list_steps.proofs.write_each.Goals as goal
 
 pub loop-i-init : goal.loop-i-init

@@ -2,7 +2,6 @@
 use native.Mathlib.Omega.{arith}
 use Rattle.unit_tables.specs.Tables.{table_fits, constants_in}
 use Rattle.unit_views.specs.Lookups.{constant_past, constant_here}
-use borrow.Author.Rules.{rules}
 use Rattle.unit_views.proofs.constant_at.Goals as goal
 
 pub returns-then-view-i : goal.returns-then-view-i

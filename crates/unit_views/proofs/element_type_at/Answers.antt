@@ -1,7 +1,6 @@
 -- `element_type_at`: the first type of the signature.
 use native.Mathlib.Omega.{arith}
 use Rattle.unit_views.specs.Lookups.{element_refused, element_none, element_here}
-use borrow.Author.Rules.{rules}
 use Rattle.unit_views.proofs.element_type_at.Goals as goal
 
 pub returns-then-signature-eq0 : goal.returns-then-signature-eq0

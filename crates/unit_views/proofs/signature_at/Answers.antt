@@ -2,7 +2,6 @@
 use native.Mathlib.Omega.{arith}
 use Rattle.unit_tables.specs.Tables.{table_fits, signatures_in}
 use Rattle.unit_views.specs.Lookups.{signature_past, signature_room, signature_here}
-use borrow.Author.Rules.{rules}
 use Rattle.unit_views.proofs.signature_at.Goals as goal
 
 pub returns-then-view-i : goal.returns-then-view-i

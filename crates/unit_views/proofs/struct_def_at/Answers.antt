@@ -3,7 +3,6 @@ use native.Mathlib.Omega.{arith}
 use Rattle.unit_tables.specs.Tables.{table_fits, struct_defs_in}
 use Rattle.unit_views.specs.Lookups.{def_script, def_past, def_at, def_here}
 use Rattle.record_views.specs.Reread.{def_read}
-use borrow.Author.Rules.{rules}
 use Rattle.unit_views.proofs.struct_def_at.Goals as goal
 
 pub returns-then-view-i : goal.returns-then-view-i

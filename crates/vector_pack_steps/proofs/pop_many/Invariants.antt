@@ -1,0 +1,11 @@
+-- One pop for each turn; a stack that is empty before the last ends the loop.
+use native.Mathlib.Omega.{arith}
+use borrow.Author.Rules.{rules}
+use Rattle.vector_pack_steps.specs.Many.{Popping, popping_start, popping_next, popping_none, popping_end}
+use Rattle.vector_pack_steps.proofs.pop_many.Given as goal
+
+abbrev pub invariant-loop-left : goal.invariant-loop-left
+invariant-loop-left l = Popping l.area l.weight l.num l.below l.left
+
+abbrev pub decreases-loop-left : goal.decreases-loop-left
+decreases-loop-left l = l.left
