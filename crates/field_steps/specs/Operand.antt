@@ -2,13 +2,11 @@
 -- operand refers to.
 use Rattle.std.specs.Prelude.{◌≡◌, Bool, not, ◌&&◌, List, ℕ, ◌-◌, ◌≤◌}
 use Rattle.std.proofs.Math.Path.{refl}
-use Rattle.std.proofs.Common.{sym, ap, ◌∙◌, inr, arith}
+use Rattle.std.proofs.Common.{sym, ap, ◌∙◌, arith}
 use Rattle.std.proofs.Math.Bool.{true, false}
 use Rattle.std.proofs.Math.Option.{some, none}
-use denote.Enum.Declared.{tag_of}
 use Rattle.definitions.specs.SignatureToken.{SignatureToken}
 use Rattle.definitions.specs.Substitution.{inner, is_mutable_reference}
-use Rattle.type_tests.specs.contracts.Referent.{the_type}
 use Rattle.type_tests.specs.declared.Referent.{Referent}
 use Rattle.type_tests.specs.declared.Referent.TheVariants as kind
 use Rattle.type_tests.specs.Kinds.{ReferentAt}
@@ -58,7 +56,7 @@ module _ {mut : Bool} {a : List ℕ} {x : ℕ} {r : Borrowed} (k : BorrowedAt mu
       go false (kind.MutableReference y) f = inside refl (refers_mutably k.told h f)
       go true (kind.Reference y) f = rw (mutable_not (refers k.told h f) refl)
       go false (kind.Reference y) f = inside refl (refers k.told h f)
-      go true kind.Value f = rw (no_mutable k.told h (inr (ap (tag_of the_type) f)))
+      go true kind.Value f = rw (no_mutable k.told h (λ y e. let z : ◌≡◌ {A = ℕ} 0 1 = cc in omega arith))
       go false kind.Value f = (refl, refers_not k.told h f)
 
   pub not_mutable : r ≡ NotMutable → allowed mut t ≡ false

@@ -5,7 +5,6 @@ use Rattle.signature_token.specs.TokenLaws.{is_bool}
 use Rattle.type_stack.specs.Stepping.{two_none, two_then, check_then, check_bad}
 use Rattle.operand_steps.specs.Operands.{operands, operand, span, no_left, no_right, yes_both, push_leaf}
 use Rattle.step_views.specs.Checks.{ability_then, ability_bad}
-use borrow.Author.Rules.{rules}
 use Rattle.drop_steps.proofs.equality.Goals as goal
 
 pub returns-in_default : goal.returns-in_default

@@ -3,7 +3,6 @@ use Rattle.definitions.specs.TypeSafety as step
 use Rattle.type_stack.specs.Stepping.{pop_none, pop_then, check_last, check_last_bad}
 use Rattle.operand_steps.specs.Operands.{operand, operands}
 use Rattle.step_views.specs.Checks.{ability_then, ability_bad}
-use borrow.Author.Rules.{rules}
 use Rattle.drop_steps.proofs.pop_step.Goals as goal
 
 pub returns-in_default : goal.returns-in_default

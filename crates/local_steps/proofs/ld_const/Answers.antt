@@ -1,7 +1,6 @@
 -- There is no such constant, or its type is pushed.
 use Rattle.definitions.specs.TypeSafety as step
 use Rattle.step_views.specs.Checks.{type_then, type_bad, unit_room}
-use borrow.Author.Rules.{rules}
 use Rattle.local_steps.proofs.ld_const.Goals as goal
 
 pub push_type-requires : goal.push_type-requires

@@ -1,7 +1,5 @@
 -- The bytes from the type's start to its end are pushed.
 use Rattle.copied_pushes.specs.Standing.{type_part}
-use Rattle.local_steps.specs.Pushes.{pushes_type}
-use borrow.Author.Rules.{rules}
 use Rattle.local_steps.proofs.push_type.Goals as goal
 
 pub push_part-requires : goal.push_part-requires

@@ -5,7 +5,6 @@ use Rattle.type_stack.specs.Stepping.{pop_none, pop_then, check_last, check_last
 use Rattle.operand_steps.specs.Operands.{span, top_span}
 use Rattle.step_views.specs.Checks.{type_then, type_bad}
 use Rattle.locals.specs.Locals.{place_alone, local_type, local_room}
-use borrow.Author.Rules.{rules}
 use Rattle.local_steps.proofs.st_loc.Goals as goal
 
 pub returns-in_default : goal.returns-in_default

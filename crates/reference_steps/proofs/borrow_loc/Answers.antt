@@ -6,7 +6,6 @@ use Rattle.reference_steps.specs.Inner.{a_reference, no_reference}
 use Rattle.copied_pushes.specs.Standing.{type_part}
 use Rattle.step_views.specs.Checks.{type_then, type_bad}
 use Rattle.locals.specs.Locals.{place_alone, local_type, local_room}
-use borrow.Author.Rules.{rules}
 use Rattle.reference_steps.proofs.borrow_loc.Goals as goal
 
 pub inner_at-requires : goal.inner_at-requires
@@ -22,3 +21,17 @@ unfolding step.borrow_loc
 returns-in-Inner c =
     λ p. type_then (local_type c.requires.local_places p _ c.local_at.ensures).is _ (ap place_alone c.in-Found.is)
     (λ q. check_bad _ (a_reference c.inner_at.ensures q c.in-Inner.is))
+
+pub returns-in-Value : goal.returns-in-Value
+unfolding step.borrow_loc
+returns-in-Value c =
+    λ p. let n = c.local_at.ensures in
+    let f = c.in-Found.is in
+    type_then (local_type c.requires.local_places p _ n).is _ (ap place_alone f)
+    (λ q. check_then _ _ (no_reference c.inner_at.ensures q c.in-Value.is)
+    (c.push_reference.ensures.steps q (local_room c.requires.local_places p _ n f).1))
+
+pub push_reference-requires-clause-part : goal.push_reference-requires-clause-part
+push_reference-requires-clause-part c =
+    let room = local_room c.requires.local_places c.requires.unit_read _ c.local_at.ensures c.in-Found.is in
+    type_part room.0 room.1 room.2

@@ -5,7 +5,6 @@ use Rattle.type_stack.specs.Stepping.{pop_none, pop_then, look_then, look_bad, c
 use Rattle.operand_steps.specs.Operands.{operands, referent, top_room, inner_is, push_referent}
 use Rattle.reference_steps.specs.Inner.{references, inner_room, refers_either, no_inner}
 use Rattle.step_views.specs.Checks.{ability_then, ability_bad}
-use borrow.Author.Rules.{rules}
 use Rattle.reference_steps.proofs.read_ref.Goals as goal
 
 pub returns-in_default : goal.returns-in_default
@@ -29,6 +28,14 @@ check_ability-requires c = search references
 pub overflow_add-start : goal.overflow_add-start
 unfolding step.read_ref
 overflow_add-start c = omega (arith, c.requires.stacked.small, (top_room c.requires.stacked c.peek-top.ensures c.in-Entry.is).1)
+
+pub push_within-requires : goal.push_within-requires
+unfolding step.read_ref
+push_within-requires c =
+    record {
+      stacked = (inner_room c.requires.stacked c.peek-top.ensures c.in-Entry.is c.inner_at-operand.ensures c.in-Inner.is).0;
+      weight_le_from = (inner_room c.requires.stacked c.peek-top.ensures c.in-Entry.is c.inner_at-operand.ensures c.in-Inner.is).1;
+    }
 
 pub returns-in-Refused : goal.returns-in-Refused
 unfolding step.read_ref

@@ -6,7 +6,6 @@ use Rattle.type_stack.specs.Stepping.{two_none, two_then, look_then, look_bad, c
 use Rattle.operand_steps.specs.Operands.{operands, span, referent, refers_mutably, mutable_is, no_mutable}
 use Rattle.reference_steps.specs.Inner.{references}
 use Rattle.step_views.specs.Checks.{ability_then, ability_bad}
-use borrow.Author.Rules.{rules}
 use Rattle.reference_steps.proofs.write_ref.Goals as goal
 
 pub returns-in_default : goal.returns-in_default
@@ -50,3 +49,9 @@ returns-else-same_type c =
     look_then _ (rw (mutable_is n refl))
     (ability_then (c.check_ability.ensures p (referent n)) c.in-Passed.is
     (λ set m. check_then _ _ m (check_last_bad (sym (c.same_type.ensures (span k) (referent n)) ∙ c.if-same_type.false)))))
+
+pub returns-in_default-reference : goal.returns-in_default-reference
+unfolding step.write_ref
+returns-in_default-reference c =
+    λ p. two_then c.peek_two-top.ensures c.in-Entries.is
+    (λ t u h k. look_bad _ (rw (no_mutable c.referent_at-reference.ensures h c.in_default-reference.not-MutableReference)))

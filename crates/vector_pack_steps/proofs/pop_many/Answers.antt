@@ -1,6 +1,4 @@
-use native.Mathlib.Omega.{arith}
-use borrow.Author.Rules.{rules}
-use Rattle.vector_pack_steps.specs.Many.{Popping, popping_start, popping_next, popping_none, popping_end}
+use Rattle.vector_pack_steps.specs.Many.{popping_start, popping_next, popping_none, popping_end}
 use Rattle.vector_pack_steps.proofs.pop_many.Goals as goal
 
 pub loop-left-init : goal.loop-left-init

@@ -1,7 +1,5 @@
 -- One pop for each turn; a stack that is empty before the last ends the loop.
-use native.Mathlib.Omega.{arith}
-use borrow.Author.Rules.{rules}
-use Rattle.vector_pack_steps.specs.Many.{Popping, popping_start, popping_next, popping_none, popping_end}
+use Rattle.vector_pack_steps.specs.Many.{Popping}
 use Rattle.vector_pack_steps.proofs.pop_many.Given as goal
 
 abbrev pub invariant-loop-left : goal.invariant-loop-left

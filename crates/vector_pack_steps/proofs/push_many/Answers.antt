@@ -1,8 +1,7 @@
 use mathlib.Core.Path.{sym}
 use native.Mathlib.Omega.{arith}
-use borrow.Author.Rules.{rules}
-use Rattle.type_stack.specs.Held.{part, part_length}
-use Rattle.vector_pack_steps.specs.Many.{Writing, many_full, writing_start, writing_room, writing_next, writing_end}
+use Rattle.type_stack.specs.Held.{part_length}
+use Rattle.vector_pack_steps.specs.Many.{many_full, writing_start, writing_room, writing_next, writing_end}
 use Rattle.vector_pack_steps.proofs.push_many.Goals as goal
 
 pub returns-then-fit-num : goal.returns-then-fit-num

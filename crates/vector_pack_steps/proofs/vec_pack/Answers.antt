@@ -1,7 +1,6 @@
 -- The look-up, the pops, and then the push of a vector.
 use mathlib.Core.Path.{refl}
 use native.Mathlib.Omega.{arith}
-use borrow.Author.Rules.{rules}
 use Rattle.definitions.specs.TypeSafety as step
 use Rattle.type_stack.specs.Stepping.{and_then, and_bad, and_stacked}
 use Rattle.unit_tables.specs.Tables.{unit_short}

@@ -1,10 +1,9 @@
 -- A vector of the named element is popped, and its element pushed so many times.
 use mathlib.Core.Path.{sym, ◌∙◌}
 use native.Mathlib.Omega.{arith}
-use borrow.Author.Rules.{rules}
 use Rattle.definitions.specs.TypeSafety as step
 use Rattle.type_stack.specs.Stepping.{pop_none, pop_then, check_then, check_bad}
-use Rattle.type_stack.specs.Tops.{Topped, topped}
+use Rattle.type_stack.specs.Tops.{topped}
 use Rattle.operand_steps.specs.Operands.{span}
 use Rattle.unit_tables.specs.Tables.{unit_short}
 use Rattle.step_views.specs.Checks.{found_type, type_then, type_bad}

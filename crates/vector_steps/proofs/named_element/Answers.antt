@@ -1,5 +1,4 @@
 -- No signature, an element type that is the operand's, or one that is not.
-use borrow.Author.Rules.{rules}
 use Rattle.step_views.specs.Checks.{found_type}
 use Rattle.vector_steps.specs.Named.{named_none, named_yes, named_no}
 use Rattle.vector_steps.proofs.named_element.Goals as goal

@@ -1,5 +1,4 @@
 -- A reference to a vector of the named element is popped, and a u64 pushed.
-use borrow.Author.Rules.{rules}
 use Rattle.definitions.specs.TypeSafety as step
 use Rattle.signature_token.specs.TokenLaws.{is_u64}
 use Rattle.type_stack.specs.Stepping.{pop_none, pop_then}

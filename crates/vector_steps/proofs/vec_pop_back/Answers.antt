@@ -1,9 +1,8 @@
 -- A mutable reference to a vector of the named element is popped, and the element pushed.
 use native.Mathlib.Omega.{arith}
-use borrow.Author.Rules.{rules}
 use Rattle.definitions.specs.TypeSafety as step
 use Rattle.type_stack.specs.Stepping.{pop_none, pop_then}
-use Rattle.type_stack.specs.Tops.{Topped, topped}
+use Rattle.type_stack.specs.Tops.{topped}
 use Rattle.operand_steps.specs.Operands.{span}
 use Rattle.unit_tables.specs.Tables.{unit_short}
 use Rattle.copied_pushes.specs.Standing.{type_part, push_declared}

@@ -1,8 +1,7 @@
 -- The element and the mutable reference to a vector of it are popped; the look-up is done between the pops and the comparisons.
-use borrow.Author.Rules.{rules}
 use Rattle.definitions.specs.TypeSafety as step
 use Rattle.type_stack.specs.Stepping.{two_none, two_then, check_then, check_bad}
-use Rattle.type_stack.specs.Tops.{Topped, topped_two}
+use Rattle.type_stack.specs.Tops.{topped_two}
 use Rattle.operand_steps.specs.Operands.{span}
 use Rattle.step_views.specs.Checks.{found_type, type_then, type_bad}
 use Rattle.vector_elements.specs.Found.{same_turned}

@@ -1,10 +1,9 @@
 -- Two u64 and a mutable reference to a vector are popped. The indexes are tested before the look-up.
-use borrow.Author.Rules.{rules}
 use Rattle.definitions.specs.TypeSafety as step
 use Rattle.definitions.specs.SignatureToken.{U64}
 use Rattle.signature_token.specs.TokenLaws.{is_u64}
 use Rattle.type_stack.specs.Stepping.{two_none, two_then, pop_none, pop_then, check_then, check_bad}
-use Rattle.type_stack.specs.Tops.{Topped, topped, topped_two}
+use Rattle.type_stack.specs.Tops.{topped, topped_two}
 use Rattle.operand_steps.specs.Operands.{operand, span, no_left, no_right, yes_both}
 use Rattle.vector_steps.specs.Named.{named_last, named_last_bad}
 use Rattle.vector_steps.proofs.vec_swap.Goals as goal
