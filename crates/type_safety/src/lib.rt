@@ -1,6 +1,6 @@
 // `verify` of type_safety.rs: the blocks as listed, each from its first to its last instruction, following no jump, past Ret and Abort too.
 // The stack is empty at first and is not cleared between blocks. Whether it was empty after each of them is told beside the verdict: where it
-// was, stack usage accepts too (theorems, specs/Clean).
+// was, stack usage accepts too (theorems, proofs/Clean).
 #![tactic(auto)]
 
 ghost use Rattle.std.specs.Prelude.{◌≡◌, ◌≤◌, ◌<◌, ◌&&◌, eqb, length};

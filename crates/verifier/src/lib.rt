@@ -33,7 +33,7 @@ fn clear(area: &mut [u8])
 }
 
 // Stack usage, and then types where it accepts. Types is walked first: where that walk is clean, stack usage accepts too, which is proved
-// (theorems, specs/Clean), and need not be run. Where it is not, stack usage decides whether the verdict of types counts.
+// (theorems, proofs/Clean), and need not be run. Where it is not, stack usage decides whether the verdict of types counts.
 fn verify_passes(area: &mut [u8], s: &[u8], index: &[u16], view: View) -> Verdict
     requires area_len_bound { length area.old ≤ 65535 }
     requires unit_read { UnitRead s.now index.now view }
