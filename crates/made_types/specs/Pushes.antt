@@ -19,7 +19,8 @@ use Rattle.substitution.specs.Past.{not_instantiated}
 use Rattle.substitution.specs.Size.{SizeAt, past, size_filling, size_long}
 use Rattle.substitution_writer.specs.declared.Reached.{Reached}
 use Rattle.substitution_writer.specs.Write.{WroteAt}
-use Rattle.materialize_type.specs.Materialize.{command_length, length_short, ArgumentList, materialized, laid_long, MaterializedSize, StructRoom, MaterializedInto, MaterializedSame}
+use Rattle.materialize_type.specs.Materialize.{command_length, ArgumentList, materialized, MaterializedSize, StructRoom, MaterializedInto, MaterializedSame}
+use Rattle.materialize_type.proofs.Materialize.{length_short, laid_long}
 use Rattle.type_stack.specs.Spliced.{spliced, over, length_spliced}
 use Rattle.type_stack.specs.Held.{Stacked}
 use Rattle.type_stack.specs.Stepping.{StepsTo, push_full, look_then, look_bad}

@@ -1,5 +1,5 @@
 -- Three bytes without arguments, four with them.
-use Rattle.materialize_type.specs.Materialize.{length_none, length_some}
+use Rattle.materialize_type.proofs.Materialize.{length_none, length_some}
 use Rattle.materialize_type.proofs.command_length.Goals as goal
 
 pub returns-then-n-eq0 : goal.returns-then-n-eq0

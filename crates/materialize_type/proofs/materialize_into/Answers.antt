@@ -1,6 +1,6 @@
 -- The command is copied, and the arguments behind it.
 use Rattle.byte_parts.specs.Bytes.{copied_long}
-use Rattle.materialize_type.specs.Materialize.{command_room, list_room, materialized_into}
+use Rattle.materialize_type.proofs.Materialize.{command_room, list_room, materialized_into}
 use Rattle.materialize_type.proofs.materialize_into.Goals as goal
 
 pub copy-after-requires : goal.copy-after-requires

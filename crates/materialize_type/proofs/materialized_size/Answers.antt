@@ -1,6 +1,6 @@
 -- The command's bytes and those of the arguments.
 use native.Mathlib.Omega.{arith}
-use Rattle.materialize_type.specs.Materialize.{materialized_size, length_short}
+use Rattle.materialize_type.proofs.Materialize.{materialized_size, length_short}
 use Rattle.materialize_type.proofs.materialized_size.Goals as goal
 
 pub overflow_add-result : goal.overflow_add-result

@@ -1,7 +1,7 @@
 -- The lengths are compared, then the command, then the arguments.
 use native.Mathlib.Omega.{arith}
 use Rattle.signature_token.specs.Same.{span_within}
-use Rattle.materialize_type.specs.Materialize.{length_short, length_differs, command_within, list_within, command_differs, list_compared, list_there}
+use Rattle.materialize_type.proofs.Materialize.{length_short, length_differs, command_within, list_within, command_differs, list_compared, list_there}
 use Rattle.materialize_type.proofs.same_materialized.Goals as goal
 
 pub overflow_add-k : goal.overflow_add-k

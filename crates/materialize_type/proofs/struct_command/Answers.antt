@@ -1,5 +1,5 @@
 -- The command's byte by whether there are arguments, and its operands.
-use Rattle.materialize_type.specs.Materialize.{command_none, command_some}
+use Rattle.materialize_type.proofs.Materialize.{command_none, command_some}
 use Rattle.materialize_type.proofs.struct_command.Goals as goal
 use Rattle.materialize_type.proofs.struct_command.Goals.{then-n-eq0, else-n-eq0}
 

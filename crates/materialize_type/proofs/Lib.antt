@@ -1,0 +1,2 @@
+-- The modules of this crate's proofs.
+pub mod Materialize
