@@ -1,6 +1,6 @@
 // `Locals` of type_safety.rs: the types of the function's parameters and of its other locals, by their places in the unit. The places are
-// found once for a call, and behind them the end of the last type, so that each type ends at the next entry. The prover does not cover a
-// function over a struct that holds references, so those here are few and thin, and each is proved by hand; the work is in `place_of`.
+// found once for a call, and behind them the end of the last type, so that each type ends at the next entry. The functions over the struct,
+// which holds references, are few and thin; the work is in `place_of`.
 #![tactic(auto)]
 
 ghost use Rattle.std.specs.Prelude.{◌≡◌, ◌+◌, ◌≤◌, ◌<◌, length};

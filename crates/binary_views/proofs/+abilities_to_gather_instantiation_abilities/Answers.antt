@@ -44,14 +44,14 @@ abilities_to-instantiation_abilities-requires t c =
 pub abilities_to-returns-in-Leaf : goal.abilities_to-returns-in-Leaf
 abilities_to-returns-in-Leaf t c = rw c.leaf_abilities.ensures (leaf_abilities c.token_at.ensures c.in-Leaf.is)
 
+pub abilities_to-returns-in-Reference : goal.abilities_to-returns-in-Reference
+abilities_to-returns-in-Reference t c =
+    reference_abilities c.token_at.ensures (rw c.in-Reference.is at c.in-Wrapped.is) c.end_of_type.ensures
+
 pub abilities_to-returns-in-Vector : goal.abilities_to-returns-in-Vector
 abilities_to-returns-in-Vector t c =
     rw c.vector_abilities.ensures
     (vector_abilities c.token_at.ensures _ (rw c.in-Vector.is at c.in-Wrapped.is) c.abilities_to.ensures)
-
-pub abilities_to-returns-in-Reference : goal.abilities_to-returns-in-Reference
-abilities_to-returns-in-Reference t c =
-    reference_abilities c.token_at.ensures (rw c.in-Reference.is at c.in-Wrapped.is) c.end_of_type.ensures
 
 pub abilities_to-returns-in-MutableReference : goal.abilities_to-returns-in-MutableReference
 abilities_to-returns-in-MutableReference t c =
