@@ -13,7 +13,8 @@ use Rattle.definitions.specs.Reader.{compiled_unit, items, ability, signature_of
 use Rattle.definitions.specs.Places.{TypeAt}
 use Rattle.definitions.specs.Substitution.{materialize_type}
 use Rattle.theorems.specs.Bytes.{list_of_arguments}
-use Rattle.file_format.specs.declared.Abilities.{Abilities}
+use Rattle.file_format.specs.Answers.{PartialVMResult}
+use Rattle.file_format.specs.declared.AbilitySet.{AbilitySet}
 use Rattle.record_reader.specs.Apart.{parts, made, byte_read}
 use Rattle.record_views.specs.declared.TypeList.{TypeList}
 use Rattle.record_views.specs.Records.{TypesIn}
@@ -23,8 +24,10 @@ use Rattle.binary_views.specs.Abilities.{AbilitiesAt, MaterializedAbilities}
 use Rattle.unit.specs.declared.View.{View}
 use Rattle.unit.specs.Outline.{starts, joined}
 use Rattle.unit.specs.Views.{UnitRead, segments, view_of}
-use Rattle.ability_views.specs.declared.AbilityContext.{AbilityContext}
-use Rattle.unit_tables.specs.Tables.{stand}
+use Rattle.unit_tables.specs.declared.UnitView.{UnitView}
+use Rattle.unit_tables.specs.Compiled.{unit_read, compiled}
+use Rattle.binary_views.specs.declared.AbilityTables.{AbilityTables}
+use Rattle.unit_tables.specs.Tables.{stand, unit_short}
 use Rattle.function_views.specs.Named.{signature_read}
 use Rattle.ability_views.specs.Answers.{ContextIs, AbilitiesIs}
 
@@ -84,7 +87,7 @@ front_of (suc n) (x ∷ xs) (y ∷ a) rest h =
     ap₂ ◌∷◌ p (front_of n xs a rest q)
 
 module _ {s index : List ℕ} {view : View} (u : UnitRead s index view) where
-  pub constraints_at : ConstraintsRead s (view.function + 1) (compiled_unit u.decoded).function
+  constraints_at : ConstraintsRead s (view.function + 1) (compiled_unit u.decoded).function
   unfolding view_of compiled_unit
   constraints_at = rw u.viewed (constraints_read (items u.decoded.signatures) s (u.decoded.function.start + 1) (stand u).function.1)
 
@@ -100,42 +103,62 @@ module _ {s index : List ℕ} {view : View} (u : UnitRead s index view) where
       let rest = joined (drop 1 (segments u.decoded)) in
       rw handles_count (front_of (length (joined (segments u.decoded))) index (starts u.decoded.struct_handles) rest u.indexed)
 
-  -- ── the context of a look-up ──
+-- ── the context of a look-up ──
 
-  pub context_room : view.function + 7 < length s
-  context_room = omega (arith, constraints_at.here)
+module _ (unit : UnitView) where
+  -- the count of the constraints is one of the unit's bytes
+  pub context_room : unit.view.function + 7 < length unit.bytes.now
+  context_room = omega (arith, (constraints_at (unit_read unit)).here)
+
+  pub context_short : length unit.bytes.now ≤ 32768
+  context_short = unit_short (unit_read unit)
+
+  pub handles_room : unit.view.struct_handles.count ≤ length unit.index.now
+  handles_room = omega (arith, handles_count (unit_read unit), sym (length-take unit.view.struct_handles.count unit.index.now) ∙ ap length (handles_first (unit_read unit)))
+
+  sets_at : {k : ℕ} → k ≡ get_or unit.bytes.now (unit.view.function + 7) 0 → SetsRead unit.bytes.now k (unit.view.function + 8) (compiled unit).function.type_parameters
+  sets_at f =
+      let q : unit.view.function + 1 + 6 ≡ unit.view.function + 7 = omega arith in
+      let r : unit.view.function + 1 + 7 ≡ unit.view.function + 8 = omega arith in
+      rw (f, ← q, ← r) (constraints_at (unit_read unit)).sets
+
+  pub constraints_room : {k : ℕ} → k ≡ get_or unit.bytes.now (unit.view.function + 7) 0 → unit.view.function + 8 + k ≤ length unit.bytes.now
+  constraints_room f = (sets_at f).within
 
   pub context_here :
-      {n k : ℕ} → n ≡ view.struct_handles.count → k ≡ get_or s (view.function + 7) 0 →
-      ContextIs s index (compiled_unit u.decoded) (record { struct_handles = n; from = view.function + 8; to = view.function + 8 + k })
+      {n k : ℕ} {r : AbilityTables} → r.unit.now ≡ unit.bytes.now → n ≡ unit.view.struct_handles.count → k ≡ get_or unit.bytes.now (unit.view.function + 7) 0 →
+      r.handles.now ≡ take n unit.index.now → r.constraints.now ≡ take (unit.view.function + 8 + k - (unit.view.function + 8)) (drop (unit.view.function + 8) unit.bytes.now) →
+      ContextIs unit.bytes.now (compiled unit) r
   unfolding compiled_unit
-  context_here {n} {k} e f =
-      let c = constraints_at.sets in
-      let q : view.function + 1 + 6 ≡ view.function + 7 = omega arith in
-      let r : view.function + 1 + 7 ≡ view.function + 8 = omega arith in
-      let d : SetsRead s k (view.function + 8) (compiled_unit u.decoded).function.type_parameters = rw (f, ← q, ← r) c in
-      let z : view.function + 8 + k - (view.function + 8) ≡ k = omega arith in
+  context_here {n} {k} g e f x y =
+      let z : unit.view.function + 8 + k - (unit.view.function + 8) ≡ k = omega arith in
       record {
-        room = rw e (omega (arith, handles_count, sym (length-take view.struct_handles.count index) ∙ ap length handles_first));
-        stand = rw (e, handles_first) (stand u).struct_handles;
-        ordered = omega arith;
-        within = d.within;
-        constraints = rw z (sym d.is);
+        unit_is = g;
+        stand = rw (x, e, handles_first (unit_read unit)) (stand (unit_read unit)).struct_handles;
+        constraints = (rw z at y) ∙ sym (sets_at f).is;
       }
 
-module _ {s index : List ℕ} {u : defs.CompiledUnit} {c : AbilityContext} (k : ContextIs s index u c) where
-  abbrev pub context_handles : HandlesAt s (take c.struct_handles index)
-  context_handles = record { struct_handles = u.struct_handles; stand = k.stand }
+pub ruleset context_laws = (context_room, context_short, constraints_room)
+
+module _ (unit : UnitView) where
+  -- the handles that are taken stand in the unit
+  pub handles_stand : HandlesAt unit.bytes.now (take unit.view.struct_handles.count unit.index.now)
+  unfolding compiled_unit
+  handles_stand = record { struct_handles = (compiled unit).struct_handles; stand = rw (handles_first (unit_read unit)) (stand (unit_read unit)).struct_handles }
+
+module _ {s : List ℕ} {u : defs.CompiledUnit} {c : AbilityTables} (k : ContextIs s u c) where
+  abbrev pub context_handles : HandlesAt c.unit.now c.handles.now
+  context_handles = record { struct_handles = u.struct_handles; stand = rw k.unit_is k.stand }
 
   pub abilities_here :
-      {ty : List ℕ} {place : ℕ} {r : Abilities} (p : TypeAt ty place) → AbilitiesAt ty place s (take c.struct_handles index) (take (c.to - c.from) (drop c.from s)) r →
+      {ty : List ℕ} {place : ℕ} {r : PartialVMResult AbilitySet} (p : TypeAt ty place) → AbilitiesAt ty place c.unit.now c.handles.now c.constraints.now r →
       AbilitiesIs u p.type r
   unfolding defs_abilities.abilities
   abilities_here p w = record { is = rw k.constraints at (w.answers p context_handles) }
 
   pub struct_abilities_here :
-      {h : ℕ} {l : TypeList} {r : Abilities} (q : TypesIn s l) →
-      MaterializedAbilities h s l.at l.count s (take c.struct_handles index) (take (c.to - c.from) (drop c.from s)) r →
+      {h : ℕ} {l : TypeList} {r : PartialVMResult AbilitySet} (q : TypesIn s l) →
+      MaterializedAbilities h s l.at l.count c.unit.now c.handles.now c.constraints.now r →
       AbilitiesIs u (materialize_type h q.types) r
   unfolding defs_abilities.abilities
   struct_abilities_here q w = record { is = rw (k.constraints, list_of_arguments q.types) at (w.answers (types_at q) context_handles) }

@@ -4,17 +4,18 @@
 
 ghost use Rattle.definitions.specs.CompiledUnit as defs;
 ghost use Rattle.definitions.specs.Places.{TypeAt};
-ghost use Rattle.definitions.specs.Reader.{compiled_unit};
 ghost use Rattle.definitions.specs.Substitution.{materialize_type};
 ghost use Rattle.record_views.specs.Records.{TypesIn};
-ghost use Rattle.unit.specs.Views.{UnitRead};
-ghost use Rattle.ability_views.specs.Answers.{StructHandleIs, ContextIs, AbilitiesIs};
+ghost use Rattle.unit_tables.specs.Answers.{ResultIs};
+ghost use Rattle.unit_tables.specs.Compiled.{compiled};
+ghost use Rattle.ability_views.specs.Answers.{HandleIs, ContextIs, AbilitiesIs};
 
-use file_format::{Abilities, AbilitySet, StructHandleIndex};
-use numbers::{wide, widest};
+use binary_views::AbilityTables;
+use file_format::{AbilitySet, StructHandleIndex};
 use record_views::TypeList;
-use status::StatusCode;
-use unit::View;
+use signature_token::TypeRef;
+use status::PartialVMResult;
+use unit_tables::UnitView;
 
 // A struct's declared abilities, and its type parameters: `count` bytes at `parameters`, 1 where one is phantom.
 #[derive(Clone, Copy)]
@@ -24,90 +25,57 @@ pub struct StructHandle {
     pub count: usize,
 }
 
-// What the abilities of a type depend on: the first so many entries of the index are the struct handles, and the constraints of the
-// function's type parameters stand from one place to another.
-#[derive(Clone, Copy)]
-struct AbilityContext {
-    struct_handles: usize,
-    from: usize,
-    to: usize,
-}
-
-#[derive(Clone, Copy)]
-pub enum StructHandleResult {
-    Found(StructHandle),
-    Refused(StatusCode),
-}
-
+#[tactic(auto, using(crate::specs::Lookups::handle_laws))]
 pub fn struct_handle_at(
-    s: &[u8],
-    index: &[u16],
-    view: View,
+    unit: &UnitView<'_>,
     idx: StructHandleIndex,
-) -> StructHandleResult
-    requires { UnitRead s.now index.now view }
-    ensures { (p : UnitRead s.now index.now view) → StructHandleIs s.now (defs.struct_handle_at (compiled_unit p.decoded) idx.0) result }
+) -> PartialVMResult<StructHandle>
+    ensures { ResultIs (HandleIs unit.now.bytes.now) (defs.struct_handle_at (compiled unit.now) idx.0) result }
 {
-    let i = idx.0;
-    if view.struct_handles.count <= i {
-        return StructHandleResult::Refused(StatusCode::OUT_OF_TABLE);
-    }
-    let p = unit_tables::place(index, view.struct_handles, widest(i));
-    StructHandleResult::Found(StructHandle {
-        abilities: AbilitySet(s[p + 1]),
+    let p = unit.look_up(unit.view.struct_handles, idx.0)?;
+    Ok(StructHandle {
+        abilities: AbilitySet(unit.bytes[p + 1]),
         parameters: p + 3,
-        count: wide(s[p + 2]),
+        count: usize::from(unit.bytes[p + 2]),
     })
 }
 
-fn ability_context(s: &[u8], index: &[u16], view: View) -> AbilityContext
-    requires { UnitRead s.now index.now view }
-    ensures { (p : UnitRead s.now index.now view) → ContextIs s.now index.now (compiled_unit p.decoded) result }
+// What the abilities of a type depend on: the struct handles, which are the first entries of the index, and the constraints of the function's
+// type parameters, the last part of its record, behind their count.
+#[tactic(auto, using(crate::specs::Function::context_laws))]
+fn ability_tables<'a>(unit: &UnitView<'a>) -> AbilityTables<'a>
+    ensures { ContextIs unit.now.bytes.now (compiled unit.now) result }
 {
-    let from = view.function + 8;
-    AbilityContext {
-        struct_handles: widest(view.struct_handles.count),
-        from,
-        to: from + wide(s[view.function + 7]),
+    let handles = usize::from(unit.view.struct_handles.count);
+    let from = unit.view.function + 8;
+    let to = from + usize::from(unit.bytes[unit.view.function + 7]);
+    AbilityTables {
+        unit: unit.bytes,
+        handles: &unit.index[..handles],
+        constraints: &unit.bytes[from..to],
     }
 }
 
-// The abilities of the type at `at` of ty, which is the unit or the area.
-pub fn abilities(ty: &[u8], at: usize, s: &[u8], index: &[u16], view: View) -> Abilities
-    requires type_at { TypeAt ty.now at }
-    requires unit_read { UnitRead s.now index.now view }
-    ensures { (p : UnitRead s.now index.now view) (q : TypeAt ty.now at) → AbilitiesIs (compiled_unit p.decoded) q.type result }
+// The abilities of a type, which stands in the unit or in the area.
+pub fn abilities(ty: TypeRef, unit: &UnitView<'_>) -> PartialVMResult<AbilitySet>
+    ensures { (q : TypeAt ty.entry.bytes.now ty.entry.at) → AbilitiesIs (compiled unit.now) q.type result }
 {
-    let context = ability_context(s, index, view);
-    let handles = context.struct_handles;
-    let from = context.from;
-    let to = context.to;
-    binary_views::abilities(ty, at, s, &index[..handles], &s[from..to])
+    ability_tables(unit).abilities(ty)
 }
 
 // The abilities of the struct with the type arguments that stand in the unit.
 pub fn struct_abilities(
-    s: &[u8],
-    index: &[u16],
-    view: View,
+    unit: &UnitView<'_>,
     h: StructHandleIndex,
     type_args: TypeList,
-) -> Abilities
-    requires unit_read { UnitRead s.now index.now view }
-    requires types_in { TypesIn s.now type_args }
-    ensures { (p : UnitRead s.now index.now view) (q : TypesIn s.now type_args) → AbilitiesIs (compiled_unit p.decoded) (materialize_type h.0 q.types) result }
+) -> PartialVMResult<AbilitySet>
+    requires { TypesIn unit.now.bytes.now type_args }
+    ensures { (q : TypesIn unit.now.bytes.now type_args) → AbilitiesIs (compiled unit.now) (materialize_type h.0 q.types) result }
 {
-    let context = ability_context(s, index, view);
-    let handles = context.struct_handles;
-    let from = context.from;
-    let to = context.to;
-    binary_views::materialized_abilities(
-        h,
-        s,
-        type_args.at,
-        type_args.count,
-        s,
-        &index[..handles],
-        &s[from..to],
-    )
+    let arguments = signature_token::TypeList {
+        bytes: unit.bytes,
+        at: type_args.at,
+        count: type_args.count,
+    };
+    ability_tables(unit).materialized_abilities(h, arguments)
 }

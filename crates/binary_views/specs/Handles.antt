@@ -1,6 +1,6 @@
 -- What the reading of a struct handle's record says of its bytes: after the command the abilities, then how many parameters there are, then
 -- a byte for each, 1 where it is phantom. The reader's steps are undone one by one.
-use Rattle.std.specs.Prelude.{◌≡◌, refl, Bool, true, false, List, [], ◌∷◌, map, ℕ, zero, suc, ◌+◌, ◌≤◌, ◌<◌, ltb, leb, eqb, length, get_or, take, drop}
+use Rattle.std.specs.Prelude.{◌≡◌, refl, Ok, Bool, true, false, List, [], ◌∷◌, map, ℕ, zero, suc, ◌+◌, ◌≤◌, ◌<◌, ltb, leb, eqb, length, get_or, take, drop}
 use Rattle.std.proofs.Common.{sym, ap, ◌∙◌, arith, add-one, drop-cons, ltb-true}
 use Rattle.status.specs.declared.StatusCode.{StatusCode}
 use Rattle.status.specs.declared.StatusCode.TheVariants.{SHORT, VALUE}
@@ -9,7 +9,10 @@ use Rattle.definitions.specs.Abilities.{is_phantom_of}
 use Rattle.definitions.specs.Reading.{Read, read, stop, next, ◌>>=◌, ◌>>◌, give, here, need, byte, many}
 use Rattle.definitions.specs.Reader.{byte_up_to, ability, struct_type_parameter, struct_handle}
 use Rattle.definitions.specs.Places.{RecordAt, TableAt}
+use Rattle.std.proofs.Math.Logic.{∥∥₁_elim}
+use Rattle.std.specs.Coded.{le_prop}
 use Rattle.file_format.specs.AbilitySet.{is_phantom_byte}
+use Rattle.binary_views.specs.Tables.{PlaceAt, entry_at}
 
 -- ── the words ──
 
@@ -132,6 +135,11 @@ handle_bytes {unit} {p} {h} r =
       within = rw (ps.counted, ← v) ps.within;
     })
 
--- a struct handle ends within the unit
-pub handle_room : {unit : List ℕ} {p : ℕ} → HandleAt unit p → p + 3 + get_or unit (p + 2) 0 ≤ length unit
-handle_room h = let b = handle_bytes h.stands in omega (arith, b.counted, b.within)
+-- a handle that was looked up stands there
+pub handle_found : {unit handles : List ℕ} {i p : ℕ} → HandlesAt unit handles → PlaceAt handles i (Ok p) → HandleAt unit p
+handle_found h e = let k = entry_at h.stand e in record { handle = k.item; stands = k.stands }
+
+-- and it ends within the unit
+pub handle_room : {unit handles : List ℕ} {i p : ℕ} → ∥ HandlesAt unit handles ∥₁ → PlaceAt handles i (Ok p) → p + 3 + get_or unit (p + 2) 0 ≤ length unit
+handle_room {unit} {handles} {i} {p} h e =
+    ∥∥₁_elim h le_prop (λ (h : HandlesAt unit handles). let b = handle_bytes (handle_found h e).stands in omega (arith, b.counted, b.within))

@@ -2,49 +2,33 @@
 // A struct handle is found by its place in the unit, which the reader noted, and not by a walk over the table.
 #![tactic(auto)]
 
-ghost use Rattle.std.specs.Prelude.{◌≡◌, ◌≤◌, length};
+ghost use Rattle.std.specs.Prelude.{◌≡◌, ◌+◌, ◌≤◌, length, slice_index, IfOk};
 ghost use Rattle.definitions.specs.Result.{at};
-ghost use Rattle.definitions.specs.Places.{TypeAt, TypesAt};
+ghost use Rattle.file_format.specs.Answers.{answer};
 ghost use Rattle.file_format.specs.AbilitySet.{set_of, abilities_answer};
 ghost use Rattle.binary_views.specs.Tables.{PlaceAt};
-ghost use Rattle.binary_views.specs.Handles.{HandleAt, HandlesAt};
-ghost use Rattle.binary_views.specs.Abilities.{leaf_set, without_end, ending_at, of_vector, StructAbilitiesAt, InstantiatedAt, AbilitiesAt, MaterializedAbilities, AbilitiesToAt, InstantiationToAt, GatheredAt};
+ghost use Rattle.binary_views.specs.Handles.{HandlesAt};
+ghost use Rattle.binary_views.specs.Abilities.{leaf_set, of_vector, StructAbilitiesAt, InstantiatedAt, AbilitiesAt, MaterializedAbilities, AbilitiesToAt, InstantiationToAt, GatheredAt};
 
-use file_format::{Abilities, AbilitySet, StructHandleIndex};
-use numbers::{wide, widest};
-use signature_token::{Token, Wrapper};
-use status::StatusCode;
+use file_format::{AbilitySet, StructHandleIndex};
+use signature_token::{Token, TypeList, TypeRef, Wrapper};
+use status::{PartialVMResult, StatusCode};
 
-// Where a record stands, by the place of its command; or its index is past the table.
+// What abilities are looked up in: a unit, the places of its struct handles, and the abilities of the function's type parameters.
 #[derive(Clone, Copy)]
-enum Place {
-    At(usize),
-    OutOfTable,
+pub struct AbilityTables<'a> {
+    pub unit: &'a [u8],
+    pub handles: &'a [u16],
+    pub constraints: &'a [u8],
+    pub ghost handles_at: { ∥ HandlesAt unit.now handles.now ∥₁ },
 }
 
-// A type's abilities and where the type ends, so that a walk along types goes on from there; or the status of a refusal.
-#[derive(Clone, Copy)]
-enum AbilitiesTo {
-    Found(AbilitySet, usize),
-    Refused(StatusCode),
-}
-
-// All sets were gathered, with where the last of the types ends; or one of the types has none.
-#[derive(Clone, Copy)]
-enum Gathered {
-    To(usize),
-    Refused(StatusCode),
-}
-
-// Where the h-th struct handle stands.
-fn struct_handle_at(handles: &[u16], h: StructHandleIndex) -> Place
-    ensures { PlaceAt handles.now h.0 result }
+// The entry with an index of its table, where the Rust indexes a vector.
+#[tactic(auto, using(crate::specs::Tables::got))]
+fn entry_at<T: Copy>(table: &[T], i: usize) -> PartialVMResult<T>
+    ensures { result ≡ answer (λ entry. entry) (at table.now i) }
 {
-    let i = widest(h.0);
-    if handles.len() <= i {
-        return Place::OutOfTable;
-    }
-    Place::At(widest(handles[i]))
+    table.get(i).copied().ok_or(StatusCode::OUT_OF_TABLE)
 }
 
 // The abilities of a leaf, by its command: only signer's are not those of all others.
@@ -58,213 +42,136 @@ pub fn leaf_abilities(command: u8) -> AbilitySet
     }
 }
 
-// The abilities alone.
-fn without_end(found: AbilitiesTo) -> Abilities
-    ensures { result ≡ without_end found }
-{
-    match found {
-        AbilitiesTo::Found(set, _) => Abilities::Found(set),
-        AbilitiesTo::Refused(status) => Abilities::Refused(status),
-    }
-}
-
-// The abilities of a type that ends at `end`.
-fn ending_at(found: Abilities, end: usize) -> AbilitiesTo
-    ensures { result ≡ ending_at found end }
-{
-    match found {
-        Abilities::Found(set) => AbilitiesTo::Found(set, end),
-        Abilities::Refused(status) => AbilitiesTo::Refused(status),
-    }
-}
-
-// The abilities of a vector, by those of its element, which ends where the vector does.
-fn vector_abilities(element: AbilitiesTo) -> AbilitiesTo
+// The abilities of a vector, by those of its element.
+fn vector_abilities(element: AbilitySet) -> PartialVMResult<AbilitySet>
     ensures { result ≡ of_vector element }
 {
-    match element {
-        AbilitiesTo::Found(set, end) => ending_at(
-            AbilitySet::polymorphic_abilities(AbilitySet::VECTOR, &[0], &[set.0]),
-            end,
-        ),
-        AbilitiesTo::Refused(status) => AbilitiesTo::Refused(status),
+    AbilitySet::polymorphic_abilities(AbilitySet::VECTOR, &[0], &[element.0])
+}
+
+impl AbilityTables<'_> {
+    // Where the h-th struct handle stands.
+    #[tactic(auto, using(crate::specs::Handles::handle_room))]
+    fn struct_handle_at(&self, h: StructHandleIndex) -> PartialVMResult<usize>
+        ensures is { PlaceAt self.now.handles.now h.0 result }
+        ensures fits { IfOk result (λ p. p + 3 + slice_index self.now.unit.now (p + 2) ≤ length self.now.unit.now) }
+    {
+        Ok(usize::from(entry_at(self.handles, usize::from(h.0))?))
     }
-}
 
-// The abilities of a struct that is not instantiated: those that its handle declares.
-fn struct_abilities(unit: &[u8], handles: &[u16], h: StructHandleIndex) -> Abilities
-    requires { HandlesAt unit.now handles.now }
-    ensures { StructAbilitiesAt unit.now handles.now h.0 result }
-{
-    match struct_handle_at(handles, h) {
-        Place::At(p) => Abilities::Found(AbilitySet(unit[p + 1])),
-        Place::OutOfTable => Abilities::Refused(StatusCode::OUT_OF_TABLE),
+    // The abilities of a struct that is not instantiated: those that its handle declares.
+    #[tactic(auto, using(crate::specs::Abilities::struct_found, crate::specs::Abilities::struct_past))]
+    fn struct_abilities(&self, h: StructHandleIndex) -> PartialVMResult<AbilitySet>
+        ensures { StructAbilitiesAt self.now.unit.now self.now.handles.now h.0 result }
+    {
+        let p = self.struct_handle_at(h)?;
+        Ok(AbilitySet(self.unit[p + 1]))
     }
-}
 
-// The abilities of a struct whose handle stands at p, over those of its arguments.
-fn instantiated_abilities(unit: &[u8], p: usize, sets: &[u8]) -> Abilities
-    requires { HandleAt unit.now p }
-    ensures { InstantiatedAt unit.now p sets.now result }
-{
-    let from = p + 3;
-    let to = from + wide(unit[p + 2]);
-    AbilitySet::polymorphic_abilities(AbilitySet(unit[p + 1]), &unit[from..to], sets)
-}
-
-// The abilities of the function's i-th type parameter.
-fn type_parameter_abilities(constraints: &[u8], i: usize) -> Abilities
-    ensures { result ≡ abilities_answer (at constraints.now i) }
-{
-    if i < constraints.len() {
-        Abilities::Found(AbilitySet(constraints[i]))
-    } else {
-        Abilities::Refused(StatusCode::OUT_OF_TABLE)
+    // The abilities of a struct whose handle stands at p, over those of its arguments.
+    #[tactic(auto, using(crate::specs::Abilities::instantiated_at))]
+    fn instantiated_abilities(&self, p: usize, sets: &[u8]) -> PartialVMResult<AbilitySet>
+        requires { p + 3 + slice_index self.now.unit.now (p + 2) ≤ length self.now.unit.now }
+        ensures { InstantiatedAt self.now.unit.now p sets.now result }
+    {
+        let from = p + 3;
+        let to = from + usize::from(self.unit[p + 2]);
+        AbilitySet::polymorphic_abilities(AbilitySet(self.unit[p + 1]), &self.unit[from..to], sets)
     }
-}
 
-// The abilities of the type at `at`: `handles` are the places of the unit's struct handles, `constraints` the abilities of the function's
-// type parameters. A reference is not looked into.
-pub fn abilities(
-    ty: &[u8],
-    at: usize,
-    unit: &[u8],
-    handles: &[u16],
-    constraints: &[u8],
-) -> Abilities
-    requires type_at { TypeAt ty.now at }
-    requires handles_at { HandlesAt unit.now handles.now }
-    ensures { AbilitiesAt ty.now at unit.now handles.now constraints.now result }
-{
-    without_end(abilities_to(ty, at, unit, handles, constraints))
-}
-
-// The same with the type's end, which the walk comes by: were it asked of another walk, each level of a type would be walked once more. Only
-// a reference's end is, since what is inside it has no say in the abilities.
-#[cycle(abilities_to_gather_instantiation_abilities)]
-fn abilities_to(
-    ty: &[u8],
-    at: usize,
-    unit: &[u8],
-    handles: &[u16],
-    constraints: &[u8],
-) -> AbilitiesTo
-    requires type_at { TypeAt ty.now at }
-    requires handles_at { HandlesAt unit.now handles.now }
-    ensures { AbilitiesToAt ty.now at unit.now handles.now constraints.now result }
-{
-    match signature_token::token_at(ty, at) {
-        Token::Leaf(command) => AbilitiesTo::Found(leaf_abilities(command), at + 1),
-        Token::Wrapped(wrapper, inner) => match wrapper {
-            Wrapper::Vector => vector_abilities(abilities_to(
-                ty,
-                inner,
-                unit,
-                handles,
-                constraints,
-            )),
-            Wrapper::Reference => AbilitiesTo::Found(
-                AbilitySet::REFERENCES,
-                signature_token::end_of_type(ty, inner),
-            ),
-            Wrapper::MutableReference => AbilitiesTo::Found(
-                AbilitySet::REFERENCES,
-                signature_token::end_of_type(ty, inner),
-            ),
-        },
-        Token::Struct(h) => ending_at(struct_abilities(unit, handles, h), at + 3),
-        Token::StructInstantiation(h, n, first) => instantiation_abilities(
-            h,
-            ty,
-            first,
-            n,
-            unit,
-            handles,
-            constraints,
-        ),
-        Token::TypeParameter(i) => ending_at(type_parameter_abilities(constraints, i), at + 3),
+    // The abilities of the function's i-th type parameter.
+    fn type_parameter_abilities(&self, i: usize) -> PartialVMResult<AbilitySet>
+        ensures { result ≡ abilities_answer (at self.now.constraints.now i) }
+    {
+        Ok(AbilitySet(entry_at(self.constraints, i)?))
     }
-}
 
-// The abilities of the struct with the n arguments at `first` of ty: its handle is looked up, then theirs, and only then are the lengths
-// compared. It ends where the last argument does.
-#[cycle(abilities_to_gather_instantiation_abilities)]
-fn instantiation_abilities(
-    h: StructHandleIndex,
-    ty: &[u8],
-    first: usize,
-    n: usize,
-    unit: &[u8],
-    handles: &[u16],
-    constraints: &[u8],
-) -> AbilitiesTo
-    requires types_at { TypesAt ty.now first n }
-    requires handles_at { HandlesAt unit.now handles.now }
-    requires n_bound { n ≤ 255 }
-    ensures { InstantiationToAt h.0 ty.now first n unit.now handles.now constraints.now result }
-{
-    match struct_handle_at(handles, h) {
-        Place::At(p) => {
-            let mut sets = [0u8; 255];
-            match gather(ty, first, n, unit, handles, constraints, &mut sets) {
-                Gathered::To(end) => ending_at(instantiated_abilities(unit, p, &sets[..n]), end),
-                Gathered::Refused(status) => AbilitiesTo::Refused(status),
+    // The abilities of a type. A reference is not looked into.
+    pub fn abilities(&self, ty: TypeRef) -> PartialVMResult<AbilitySet>
+        ensures { AbilitiesAt ty.entry.bytes.now ty.entry.at self.now.unit.now self.now.handles.now self.now.constraints.now result }
+    {
+        let (set, _) = self.abilities_to(ty)?;
+        Ok(set)
+    }
+
+    // The same with the type's end, which the walk comes by, so that a walk along types goes on from there: were it asked of another walk, each
+    // level of a type would be walked once more. Only a reference's end is, since what is inside it has no say in the abilities.
+    #[cycle(abilities_to_gather_instantiation_abilities)]
+    fn abilities_to(&self, ty: TypeRef) -> PartialVMResult<(AbilitySet, usize)>
+        ensures { AbilitiesToAt ty.entry.bytes.now ty.entry.at self.now.unit.now self.now.handles.now self.now.constraints.now result }
+    {
+        let bytes = ty.bytes;
+        let at = ty.at;
+        match ty.token() {
+            Token::Leaf(command) => Ok((leaf_abilities(command), at + 1)),
+            Token::Wrapped(wrapper, inner) => {
+                let inner = TypeRef { bytes, at: inner };
+                match wrapper {
+                    Wrapper::Vector => {
+                        let (element, end) = self.abilities_to(inner)?;
+                        Ok((vector_abilities(element)?, end))
+                    }
+                    Wrapper::Reference | Wrapper::MutableReference => {
+                        Ok((AbilitySet::REFERENCES, inner.end()))
+                    }
+                }
             }
+            Token::Struct(h) => Ok((self.struct_abilities(h)?, at + 3)),
+            Token::StructInstantiation(h, count, at) => {
+                self.instantiation_abilities(h, TypeList { bytes, at, count })
+            }
+            Token::TypeParameter(i) => Ok((self.type_parameter_abilities(i)?, at + 3)),
         }
-        Place::OutOfTable => AbilitiesTo::Refused(StatusCode::OUT_OF_TABLE),
     }
-}
 
-// The abilities of what `materialize_type` makes of a handle and the n arguments at `first` of ty.
-pub fn materialized_abilities(
-    h: StructHandleIndex,
-    ty: &[u8],
-    first: usize,
-    n: usize,
-    unit: &[u8],
-    handles: &[u16],
-    constraints: &[u8],
-) -> Abilities
-    requires types_at { TypesAt ty.now first n }
-    requires handles_at { HandlesAt unit.now handles.now }
-    requires n_bound { n ≤ 255 }
-    ensures { MaterializedAbilities h.0 ty.now first n unit.now handles.now constraints.now result }
-{
-    if n == 0 {
-        return struct_abilities(unit, handles, h);
+    // The abilities of the struct with these arguments: its handle is looked up, then theirs, and only then are the lengths compared. It ends
+    // where the last argument does.
+    #[cycle(abilities_to_gather_instantiation_abilities)]
+    fn instantiation_abilities(
+        &self,
+        h: StructHandleIndex,
+        arguments: TypeList,
+    ) -> PartialVMResult<(AbilitySet, usize)>
+        requires { arguments.count ≤ 255 }
+        ensures { InstantiationToAt h.0 arguments.entry.bytes.now arguments.entry.at arguments.entry.count self.now.unit.now self.now.handles.now self.now.constraints.now result }
+    {
+        let p = self.struct_handle_at(h)?;
+        let mut room = [0u8; 255];
+        let sets = &mut room[..arguments.count];
+        let end = self.gather(arguments, sets)?;
+        Ok((self.instantiated_abilities(p, sets)?, end))
     }
-    without_end(instantiation_abilities(h, ty, first, n, unit, handles, constraints))
-}
 
-// The abilities of the n types at `at`, left to right, to the front of `sets`; the first refusal ends the walk.
-#[cycle(abilities_to_gather_instantiation_abilities)]
-fn gather(
-    ty: &[u8],
-    at: usize,
-    n: usize,
-    unit: &[u8],
-    handles: &[u16],
-    constraints: &[u8],
-    sets: &mut [u8],
-) -> Gathered
-    requires types_at { TypesAt ty.now at n }
-    requires handles_at { HandlesAt unit.now handles.now }
-    requires n_in_bounds { n ≤ length sets.old }
-    ensures { GatheredAt ty.now at n unit.now handles.now constraints.now sets.new result }
-{
-    let mut p = at;
-    let mut i = 0;
-    while i < n {
-        match abilities_to(ty, p, unit, handles, constraints) {
-            AbilitiesTo::Found(set, end) => {
-                sets[i] = set.0;
-                p = end;
-            }
-            AbilitiesTo::Refused(status) => {
-                return Gathered::Refused(status);
-            }
+    // The abilities of what `materialize_type` makes of a handle and these arguments.
+    #[tactic(auto, using(crate::specs::Abilities::plain_made, crate::specs::Abilities::generic_made))]
+    pub fn materialized_abilities(
+        &self,
+        h: StructHandleIndex,
+        arguments: TypeList,
+    ) -> PartialVMResult<AbilitySet>
+        requires { arguments.count ≤ 255 }
+        ensures { MaterializedAbilities h.0 arguments.entry.bytes.now arguments.entry.at arguments.entry.count self.now.unit.now self.now.handles.now self.now.constraints.now result }
+    {
+        if arguments.count == 0 {
+            return self.struct_abilities(h);
         }
-        i += 1;
+        let (set, _) = self.instantiation_abilities(h, arguments)?;
+        Ok(set)
     }
-    Gathered::To(p)
+
+    // The abilities of the types, one for each place of `sets`, and where the last type ends; the first refusal ends the walk.
+    #[cycle(abilities_to_gather_instantiation_abilities)]
+    fn gather(&self, types: TypeList, sets: &mut [u8]) -> PartialVMResult<usize>
+        requires { types.count ≡ length sets.old }
+        ensures { GatheredAt types.entry.bytes.now types.entry.at types.entry.count self.now.unit.now self.now.handles.now self.now.constraints.now sets.new result }
+    {
+        let bytes = types.bytes;
+        let mut at = types.at;
+        for set in sets {
+            let (abilities, end) = self.abilities_to(TypeRef { bytes, at })?;
+            *set = abilities.0;
+            at = end;
+        }
+        Ok(at)
+    }
 }

@@ -5,8 +5,7 @@
 
 ghost use Rattle.std.specs.Prelude.{◌≤◌, ◌<◌, length, IfOk};
 
-use numbers::wide;
-use status::Verdict;
+use status::{StatusCode, Verdict};
 use std::io;
 use std::io::Print;
 
@@ -18,16 +17,10 @@ fn number(b: &[u8]) -> usize
     requires { 4 ≤ length b.now }
     ensures { result < 4294967296 }
 {
-    wide(b[0]) + 256 * wide(b[1]) + 65536 * wide(b[2]) + 16777216 * wide(b[3])
+    u32::from_le_bytes([b[0], b[1], b[2], b[3]]) as usize
 }
 
-// One area serves every case, so a longer one counts as the shortest that is too long.
-fn area_length(n: usize) -> usize
-    ensures { result ≤ 65536 }
-{
-    if n < 65536 { n } else { 65536 }
-}
-
+// The byte for the call is matched here alone: an enum of the calls would be made of it by one match, and taken apart by another.
 fn verdict_of(call: u8, unit: &[u8], area: &mut [u8]) -> Verdict {
     match call {
         0 => verifier::read_unit(unit, area),
@@ -39,26 +32,18 @@ fn verdict_of(call: u8, unit: &[u8], area: &mut [u8]) -> Verdict {
 
 // What each byte of the area is afterwards: an area that is refused is not touched, any other is zeroed.
 fn due_in_area(verdict: Verdict) -> u8 {
-    if verdict.number() == 9 { JUNK } else { 0 }
-}
-
-// Whether every byte is x.
-fn all(bytes: &[u8], x: u8) -> bool {
-    let mut i = 0usize;
-    while i < bytes.len() {
-        if bytes[i] != x {
-            return false;
-        }
-        i += 1;
+    match verdict {
+        Verdict::Refused(StatusCode::AREA, _) => JUNK,
+        _ => 0,
     }
-    true
 }
 
 // Judges a unit with an area of junk, and writes the verdict and whether the area is as it is due.
 fn judge_in<R: Print>(rt: &R, call: u8, unit: &[u8], area: &mut [u8]) -> io::Result<()> {
     let verdict = verdict_of(call, unit, area);
-    verdict_line::print(rt, verdict)?;
-    if !all(area, due_in_area(verdict)) {
+    println!(rt; "{verdict}")?;
+    let due = due_in_area(verdict);
+    if !area.iter().all(|byte| *byte == due) {
         println!(rt; "area")?;
     }
     Ok(())
@@ -80,22 +65,20 @@ fn judge_first<R: Print>(rt: &R, input: &[u8]) -> io::Result<usize>
         return Ok(input.len());
     }
     let end = 9 + number(&input[5..9]);
-    if input.len() < end {
+    let Some(unit) = input.get(9..end) else {
         return Ok(input.len());
-    }
-    judge(
-        rt,
-        input[0],
-        area_length(number(&input[1..5])),
-        &input[9..end],
-    )?;
+    };
+    // One area serves every case, so a longer one counts as the shortest that is too long.
+    let n = number(&input[1..5]).min(65536);
+    judge(rt, input[0], n, unit)?;
     Ok(end)
 }
 
 pub fn judge_all<R: Print>(rt: &R, input: &[u8]) -> io::Result<()> {
-    let mut at = 0usize;
-    while at < input.len() {
-        at += judge_first(rt, &input[at..])?;
+    let mut rest = input;
+    while !rest.is_empty() {
+        let n = judge_first(rt, rest)?;
+        rest = &rest[n..];
     }
     Ok(())
 }

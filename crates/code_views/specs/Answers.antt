@@ -1,15 +1,16 @@
 -- How the answers of the look-ups stand for those of the definitions.
-use Rattle.std.specs.Prelude.{◌≡◌, List, ℕ, ◌+◌, ◌<◌, ◌≤◌, get_or}
+use Rattle.std.specs.Prelude.{◌≡◌, ℕ, ◌+◌, ◌<◌, ◌≤◌, get_or}
 use Rattle.definitions.specs.Result.{ok, at}
 use Rattle.definitions.specs.CompiledUnit as defs
 use Rattle.record_views.specs.Records.{instruction_of}
-use Rattle.unit.specs.declared.View.{View}
+use Rattle.unit_tables.specs.declared.UnitView.{UnitView}
+use Rattle.unit_tables.specs.Compiled.{compiled}
 use Rattle.record_views.specs.declared.Instruction.{Instruction}
 use Rattle.code_views.specs.declared.Block.{Block}
 
 -- the byte at the place of instruction i: its opcode
-unfoldable pub opcode_byte : List ℕ → List ℕ → View → ℕ → ℕ
-opcode_byte s index view i = get_or s (get_or index (view.code.base + i) 0) 0
+unfoldable pub opcode_byte : UnitView → ℕ → ℕ
+opcode_byte unit i = get_or unit.bytes.now (get_or unit.index.now (unit.view.code.base + i) 0) 0
 
 -- r is instruction i, and its opcode is o
 pub record InstructionAt (u : defs.CompiledUnit) (i o : ℕ) (r : Instruction) : Type 0 where
@@ -30,7 +31,8 @@ pub record OpcodeAt (u : defs.CompiledUnit) (i o r : ℕ) : Type 0 where
 abbrev pub block_of : Block → defs.Block
 block_of b = record { first = b.first; last = b.last }
 
-pub record BlockAt (u : defs.CompiledUnit) (view : View) (i : ℕ) (r : Block) : Type 0 where
-  pub is : at u.blocks i ≡ ok (block_of r)
+-- r is block i
+pub record BlockAt (unit : UnitView) (i : ℕ) (r : Block) : Type 0 where
+  pub is : at (compiled unit).blocks i ≡ ok (block_of r)
   pub ordered : r.first ≤ r.last
-  pub within : r.last < view.code.count
+  pub within : r.last < unit.view.code.count

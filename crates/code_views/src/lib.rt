@@ -1,13 +1,12 @@
-// The code of a unit that was read: `s` are its bytes, `index` and `view` say where its instructions and its listed blocks stand.
+// The code and the listed blocks of a unit that was read.
 #![tactic(auto)]
 
 ghost use Rattle.std.specs.Prelude.{◌<◌};
-ghost use Rattle.definitions.specs.Reader.{compiled_unit};
-ghost use Rattle.unit.specs.Views.{UnitRead};
+ghost use Rattle.unit_tables.specs.Compiled.{compiled};
 ghost use Rattle.code_views.specs.Answers.{opcode_byte, InstructionAt, OpcodeAt, BlockAt};
 
 use record_views::Instruction;
-use unit::View;
+use unit_tables::UnitView;
 
 // The first and the last instruction.
 #[derive(Clone, Copy)]
@@ -17,33 +16,32 @@ pub struct Block {
 }
 
 // Instruction i, one of the code's.
-pub fn instruction_at(s: &[u8], index: &[u16], view: View, i: usize) -> Instruction
-    requires unit_read { UnitRead s.now index.now view }
-    requires i_lt_count { i < view.code.count }
-    ensures { (p : UnitRead s.now index.now view) → InstructionAt (compiled_unit p.decoded) i (opcode_byte s.now index.now view i) result }
+#[tactic(auto, using(crate::specs::Lookups::instruction_laws))]
+pub fn instruction_at(unit: &UnitView<'_>, i: usize) -> Instruction
+    requires { i < unit.now.view.code.count }
+    ensures { InstructionAt (compiled unit.now) i (opcode_byte unit.now i) result }
 {
-    record_views::instruction_at(s, unit_tables::place(index, view.code, i))
+    record_views::instruction_at(unit.bytes, unit.place(unit.view.code, i))
 }
 
 // The opcode of instruction i alone.
-pub fn opcode_at(s: &[u8], index: &[u16], view: View, i: usize) -> u8
-    requires unit_read { UnitRead s.now index.now view }
-    requires i_lt_count { i < view.code.count }
-    ensures { (p : UnitRead s.now index.now view) → OpcodeAt (compiled_unit p.decoded) i (opcode_byte s.now index.now view i) result }
+#[tactic(auto, using(crate::specs::Lookups::opcode_laws))]
+pub fn opcode_at(unit: &UnitView<'_>, i: usize) -> u8
+    requires { i < unit.now.view.code.count }
+    ensures { OpcodeAt (compiled unit.now) i (opcode_byte unit.now i) result }
 {
-    let p = unit_tables::place(index, view.code, i);
-    s[p]
+    unit.bytes[unit.place(unit.view.code, i)]
 }
 
 // Block i, one of those listed.
-pub fn block_at(s: &[u8], index: &[u16], view: View, i: usize) -> Block
-    requires unit_read { UnitRead s.now index.now view }
-    requires i_lt_count { i < view.blocks.count }
-    ensures { (p : UnitRead s.now index.now view) → BlockAt (compiled_unit p.decoded) view i result }
+#[tactic(auto, using(crate::specs::Lookups::block_laws))]
+pub fn block_at(unit: &UnitView<'_>, i: usize) -> Block
+    requires { i < unit.now.view.blocks.count }
+    ensures { BlockAt unit.now i result }
 {
-    let p = unit_tables::place(index, view.blocks, i);
+    let p = unit.place(unit.view.blocks, i);
     Block {
-        first: numbers::u16_at(s, p + 1),
-        last: numbers::u16_at(s, p + 3),
+        first: numbers::u16_at(unit.bytes, p + 1),
+        last: numbers::u16_at(unit.bytes, p + 3),
     }
 }

@@ -10,7 +10,7 @@ use Rattle.signature_token.specs.Ends.{type_room}
 use Rattle.type_stack.specs.Held.{Part, part}
 use Rattle.type_stack.specs.Stepping.{StepsTo}
 use Rattle.type_stack.specs.Pushing.{PushesTo}
-use Rattle.type_stack.specs.declared.Stepped.{Stepped}
+use Rattle.type_stack.specs.Answers.{Stepped}
 use Rattle.type_pushes.specs.References.{ReferenceCommand}
 
 module _ {s : List ℕ} {d z : ℕ} (p : TypeAt s d) (f : EndOfType s d z) where

@@ -1,75 +1,53 @@
 // The steps of type_safety.rs that ask whether an operand may be dropped: Pop, Eq and Neq.
-#![tactic(auto)]
+#![tactic(auto, using(type_stack::specs::Stepping::pops, operand_steps::specs::Operands::operands), unfolding(definitions::specs::TypeSafety::pop_step, definitions::specs::TypeSafety::equality))]
 
-ghost use Rattle.definitions.specs.Reader.{compiled_unit};
 ghost use Rattle.definitions.specs.TypeSafety as step;
 ghost use Rattle.type_stack.specs.Held.{Stacked};
 ghost use Rattle.type_stack.specs.Stepping.{StepsTo};
-ghost use Rattle.unit.specs.Views.{UnitRead};
+ghost use Rattle.unit_tables.specs.Compiled.{compiled};
 
 use file_format::Ability;
-use signature_token::BOOL;
-use status::StatusCode;
-use step_views::Checked;
-use type_stack::{Stepped, Top, TopTwo};
-use unit::View;
+use signature_token::{BOOL, TypeRef};
+use status::{PartialVMResult, StatusCode};
+use unit_tables::UnitView;
 
 // `Pop`.
-pub fn pop_step(area: &[u8], weight: usize, s: &[u8], index: &[u16], view: View) -> Stepped
-    requires stacked { Stacked area.now weight }
-    requires unit_read { UnitRead s.now index.now view }
-    ensures { (p : UnitRead s.now index.now view) → StepsTo (step.pop_step (compiled_unit p.decoded)) area.now weight area.now result }
+pub fn pop_step(area: &[u8], weight: usize, unit: &UnitView<'_>) -> PartialVMResult<usize>
+    requires { Stacked area.now weight }
+    ensures { StepsTo (step.pop_step (compiled unit.now)) area.now weight area.now result }
 {
-    let top = type_stack::peek(area, weight);
-    let Top::Entry { start, len: _ } = top else {
-        return Stepped::Refused(StatusCode::EMPTY_STACK);
+    let top = type_stack::pop(area, weight)?;
+    let operand = TypeRef {
+        bytes: area,
+        at: top.start,
     };
-    match step_views::check_ability(
-        area,
-        start,
-        s,
-        index,
-        view,
+    step_views::check_ability(
+        operand,
+        unit,
         Ability::Drop,
         StatusCode::POP_WITHOUT_DROP_ABILITY,
-    ) {
-        Checked::Refused(status) => Stepped::Refused(status),
-        Checked::Passed => Stepped::Next(start),
-    }
+    )?;
+    Ok(top.start)
 }
 
 // `Eq`, `Neq`.
-pub fn equality(area: &mut [u8], weight: usize, s: &[u8], index: &[u16], view: View) -> Stepped
-    requires stacked { Stacked area.old weight }
-    requires unit_read { UnitRead s.now index.now view }
-    ensures { (p : UnitRead s.now index.now view) → StepsTo (step.equality (compiled_unit p.decoded)) area.old weight area.new result }
+pub fn equality(area: &mut [u8], weight: usize, unit: &UnitView<'_>) -> PartialVMResult<usize>
+    requires { Stacked area.old weight }
+    ensures { StepsTo (step.equality (compiled unit.now)) area.old weight area.new result }
 {
-    let top = type_stack::peek_two(area, weight);
-    let TopTwo::Entries {
-        start,
-        len,
-        below,
-        below_len: _,
-    } = top
-    else {
-        return Stepped::Refused(StatusCode::EMPTY_STACK);
+    let mismatch = StatusCode::EQUALITY_OP_TYPE_MISMATCH_ERROR;
+    let (top, below) = type_stack::pop_two(area, weight)?;
+    let operand = TypeRef {
+        bytes: area,
+        at: top.start,
     };
-    match step_views::check_ability(
-        area,
-        start,
-        s,
-        index,
-        view,
-        Ability::Drop,
-        StatusCode::EQUALITY_OP_TYPE_MISMATCH_ERROR,
-    ) {
-        Checked::Refused(status) => Stepped::Refused(status),
-        Checked::Passed => {
-            if type_tests::same_type(area, start, len, area, below) {
-                type_pushes::push_leaf(area, below, BOOL)
-            } else {
-                Stepped::Refused(StatusCode::EQUALITY_OP_TYPE_MISMATCH_ERROR)
-            }
-        }
+    step_views::check_ability(operand, unit, Ability::Drop, mismatch)?;
+    let other = TypeRef {
+        bytes: area,
+        at: below.start,
+    };
+    if type_tests::same_type(area, top.start, top.len, other) {
+        return type_pushes::push_leaf(area, below.start, BOOL);
     }
+    Err(mismatch)
 }

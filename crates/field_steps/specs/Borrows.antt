@@ -1,6 +1,7 @@
 -- The parts of `borrow_field`: the operand, the field handle's struct definition, the field's declared type, and what is left of the program
 -- once these are known. What the functions of the crate answer of each.
-use Rattle.std.specs.Prelude.{List, Bool, true, false, ◌≡◌, ℕ}
+use Rattle.std.specs.Prelude.{List, Bool, true, false, ◌≡◌, ℕ, Option, Some, None, Result as Answer, Ok, Err}
+use Rattle.status.specs.declared.StatusCode.{StatusCode}
 use Rattle.status.specs.declared.StatusCode.TheVariants.{BORROWFIELD_TYPE_MISMATCH_ERROR, BORROWFIELD_BAD_FIELD_ERROR}
 use Rattle.definitions.specs.Result.{Result, ok, ◌>>?◌, at}
 use Rattle.definitions.specs.SignatureToken.{SignatureToken, Signature, same}
@@ -15,28 +16,23 @@ use Rattle.type_tests.specs.Kinds.{ReferentAt}
 use Rattle.type_tests.specs.declared.Referent.{Referent}
 use Rattle.type_tests.specs.declared.Referent.TheVariants as kind
 use Rattle.type_stack.specs.Stepping.{StepsTo}
-use Rattle.type_stack.specs.declared.Stepped.{Stepped}
-use Rattle.unit_tables.specs.Found.{FoundAs, RefusedAs}
-use Rattle.unit_views.specs.Answers.{TypeIs}
-use Rattle.unit_views.specs.declared.TypeResult.{TypeResult}
-use Rattle.field_steps.specs.declared.Borrowed.{Borrowed}
-use Rattle.field_steps.specs.declared.Borrowed.TheVariants.{Inner, Value, NotMutable}
+use Rattle.type_stack.specs.Answers.{Stepped}
+use Rattle.unit_tables.specs.Answers.{ResultIs}
+use Rattle.unit_views.specs.Lookups.{TypeIs}
 use Rattle.field_steps.specs.declared.Owner.{Owner}
-use Rattle.field_steps.specs.declared.OwnerResult.{OwnerResult}
-use Rattle.field_steps.specs.declared.OwnerResult.TheVariants.{Found, Refused}
 
 -- ── the operand ──
 
 -- what a type refers to, as the instruction asks: with `mut` only a `&mut` will do
-abbrev pub borrowed_of : Bool → Referent → Borrowed
-borrowed_of mut (kind.MutableReference x) = Inner x
-borrowed_of true (kind.Reference x) = NotMutable
-borrowed_of false (kind.Reference x) = Inner x
-borrowed_of true kind.Value = NotMutable
-borrowed_of false kind.Value = Value
+abbrev pub borrowed_of : Bool → Referent → Answer (Option ℕ) StatusCode
+borrowed_of mut (kind.MutableReference x) = Ok (Some x)
+borrowed_of true (kind.Reference x) = Err BORROWFIELD_TYPE_MISMATCH_ERROR
+borrowed_of false (kind.Reference x) = Ok (Some x)
+borrowed_of true kind.Value = Err BORROWFIELD_TYPE_MISMATCH_ERROR
+borrowed_of false kind.Value = Ok None
 
 -- r is the type at `place` as an operand that a field is borrowed from
-pub record BorrowedAt (mut : Bool) (a : List ℕ) (place : ℕ) (r : Borrowed) : Type 0 where
+pub record BorrowedAt (mut : Bool) (a : List ℕ) (place : ℕ) (r : Answer (Option ℕ) StatusCode) : Type 0 where
   pub referent : Referent
   pub told : ReferentAt a place referent
   pub is : r ≡ borrowed_of mut referent
@@ -51,28 +47,21 @@ pub record FieldOwner : Type 0 where
 unfoldable pub field_owner : defs.CompiledUnit → ℕ → Result FieldOwner
 field_owner u idx = defs.field_handle_at u idx >>? λ handle. defs.struct_def_at u handle.owner >>? λ def. ok (record { def = def; field = handle.field })
 
-pub record OwnerAnswers (s : List ℕ) (o : FieldOwner) (r : Owner) : Type 0 where
+pub record OwnerIs (s : List ℕ) (o : FieldOwner) (r : Owner) : Type 0 where
   pub def : DefIs s o.def r.def
   pub field : r.field ≡ o.field
-
-abbrev pub owner_answer : List ℕ → OwnerResult → Result FieldOwner → Type 0
-owner_answer s (Found r) = FoundAs (λ o. OwnerAnswers s o r)
-owner_answer s (Refused v) = RefusedAs v
-
-pub record OwnerIs (s : List ℕ) (x : Result FieldOwner) (r : OwnerResult) : Type 0 where
-  pub is : owner_answer s r x
 
 -- some field's owner stands there
 pub record OwnerAt (s : List ℕ) (r : Owner) : Type 0 where
   pub owner : FieldOwner
-  pub are : OwnerAnswers s owner r
+  pub are : OwnerIs s owner r
 
 -- the field's declared type
 unfoldable pub field_of : FieldOwner → Result SignatureToken
 field_of o = declared_fields BORROWFIELD_BAD_FIELD_ERROR o.def.field_information >>? λ fields. at fields o.field
 
-pub record FieldAt (s : List ℕ) (r : Owner) (q : TypeResult) : Type 0 where
-  pub is : (o : OwnerAt s r) → TypeIs s (field_of o.owner) q
+pub record FieldAt (s : List ℕ) (r : Owner) (q : Answer ℕ StatusCode) : Type 0 where
+  pub is : (o : OwnerAt s r) → ResultIs (TypeIs s) (field_of o.owner) q
 
 -- ── the program ──
 

@@ -1,5 +1,5 @@
 -- A field's declared type: the end of the types before it is where it stands.
-use Rattle.std.specs.Prelude.{◌≡◌, List, [], ◌∷◌, ◌++◌, ℕ, zero, suc, ◌≤◌, ◌<◌, length}
+use Rattle.std.specs.Prelude.{◌≡◌, List, [], ◌∷◌, ◌++◌, ℕ, zero, suc, Ok, Err, ◌≤◌, ◌<◌, length}
 use Rattle.std.proofs.Math.Path.{refl, ap}
 use Rattle.std.proofs.Common.{sym, ◌∙◌, append_assoc, arith}
 use Rattle.status.specs.declared.StatusCode.TheVariants.{OUT_OF_TABLE, BORROWFIELD_BAD_FIELD_ERROR}
@@ -12,7 +12,6 @@ use Rattle.theorems.specs.AtLaws.{at_front, at_back}
 use Rattle.record_views.specs.declared.Fields.TheVariants as fields
 use Rattle.record_views.specs.declared.TypeList.{TypeList}
 use Rattle.record_views.specs.Records.{ListIs, FieldsAre}
-use Rattle.unit_views.specs.declared.TypeResult.{TypeResult}
 use Rattle.field_steps.specs.Borrows.{OwnerAt, FieldAt, field_of}
 use Rattle.field_steps.specs.declared.Owner.{Owner}
 
@@ -67,7 +66,7 @@ module _ {s : List ℕ} {ts : Signature} {list : TypeList} (k : ListIs s ts list
 -- ── the field of an owner ──
 
 module _ {s : List ℕ} {r : Owner} where
-  pub no_fields : r.def.fields ≡ fields.Native → FieldAt s r (TypeResult.Refused BORROWFIELD_BAD_FIELD_ERROR)
+  pub no_fields : r.def.fields ≡ fields.Native → FieldAt s r (Err BORROWFIELD_BAD_FIELD_ERROR)
   unfolding field_of ◌>>?◌
   no_fields e = record { is = λ o. record { is = rw (native o.owner.def.field_information (rw e at o.are.def.fields)) refl } }
     where
@@ -87,12 +86,12 @@ module _ {s : List ℕ} {r : Owner} where
         go defs.Native k = absurd k
         go (defs.Declared ts) k = (ts, ap (nth ts) (sym (w ∙ o.are.field)), k)
 
-    pub field_past : list.count ≤ i → FieldAt s r (TypeResult.Refused OUT_OF_TABLE)
+    pub field_past : list.count ≤ i → FieldAt s r (Err OUT_OF_TABLE)
     field_past h = record { is = λ o. let (ts, d, k) = declared o in record { is = rw (d, nth_past ts i (omega (arith, k.counted))) refl } }
 
     module _ (h : i < list.count) where
       pub before_field : OwnerAt s r → TypesAt s list.at i
       before_field o = first_types (declared o).2 h
 
-      pub field_stands : {p : ℕ} → EndOfTypes s list.at i p → FieldAt s r (TypeResult.Found p)
+      pub field_stands : {p : ℕ} → EndOfTypes s list.at i p → FieldAt s r (Ok p)
       field_stands f = record { is = λ o. let (ts, d, k) = declared o in record { is = rw (d, (here k h).is) (nth_stands k h f) } }

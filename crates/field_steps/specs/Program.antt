@@ -14,7 +14,7 @@ use Rattle.signature_token.specs.Same.{Spans, same_both}
 use Rattle.record_views.specs.declared.TypeList.{TypeList}
 use Rattle.record_views.specs.Records.{TypesIn}
 use Rattle.type_stack.specs.Stepping.{StepsTo}
-use Rattle.type_stack.specs.declared.Stepped.{Stepped}
+use Rattle.type_stack.specs.Answers.{Stepped}
 use Rattle.made_types.specs.Made.{StructIs}
 use Rattle.field_steps.specs.Borrows.{FieldOwner, field_owner, OwnerAt, field_of, borrow_from}
 use Rattle.field_steps.specs.Operand.{allowed}

@@ -3,41 +3,30 @@
 #![tactic(auto)]
 
 ghost use Rattle.std.specs.Prelude.{◌≡◌, [], ◌∷◌, map};
-ghost use Rattle.definitions.specs.AbilitySet.{bit, EMPTY, PRIMITIVES, REFERENCES, SIGNER, VECTOR, has_ability, union, intersect, required_by, with_required_by, required_by_any, meet_argument, polymorphic_abilities};
+ghost use Rattle.definitions.specs.AbilitySet.{EMPTY, PRIMITIVES, REFERENCES, SIGNER, VECTOR, has_ability, union, intersect, required_by, with_required_by, required_by_any, meet_argument, polymorphic_abilities};
 ghost use Rattle.file_format.specs.AbilitySet.{ability_of, set_of, from_u8, is_phantom_byte, abilities_answer};
 
-use status::StatusCode;
+use status::{PartialVMResult, StatusCode};
 
-// What may be done with the values of a type.
+// What may be done with the values of a type: each ability is its bit in a set.
 #[derive(Clone, Copy)]
 pub enum Ability {
-    Copy,
-    Drop,
-    Store,
-    Key,
+    Copy = 1,
+    Drop = 2,
+    Store = 4,
+    Key = 8,
 }
 
 impl Ability {
-    // `ability as u8`
-    fn bit(self) -> u8
-        ensures { result ≡ bit (ability_of self) }
-    {
-        match self {
-            Ability::Copy => 1,
-            Ability::Drop => 2,
-            Ability::Store => 4,
-            Ability::Key => 8,
-        }
-    }
-
     // The abilities that ask this one of a type argument: key asks store, each other one itself.
+    #[tactic(auto, unfolding(definitions::specs::AbilitySet::required_by))]
     fn required_by(self) -> AbilitySet
         ensures { result ≡ set_of (required_by (ability_of self)) }
     {
         match self {
-            Ability::Copy => AbilitySet(1),
-            Ability::Drop => AbilitySet(2),
-            Ability::Store => AbilitySet(4 | 8),
+            Ability::Copy => AbilitySet(Ability::Copy as u8),
+            Ability::Drop => AbilitySet(Ability::Drop as u8),
+            Ability::Store => AbilitySet(Ability::Store as u8 | Ability::Key as u8),
             Ability::Key => AbilitySet::EMPTY,
         }
     }
@@ -46,20 +35,6 @@ impl Ability {
 // A set of abilities, a bit for each.
 #[derive(Clone, Copy)]
 pub struct AbilitySet(pub u8);
-
-// What a byte is as a set: the Rust's `Option<AbilitySet>`.
-#[derive(Clone, Copy)]
-pub enum AbilitySetResult {
-    Some(AbilitySet),
-    None,
-}
-
-// The abilities of a type, or the status of a refusal: the Rust's `PartialVMResult<AbilitySet>`.
-#[derive(Clone, Copy)]
-pub enum Abilities {
-    Found(AbilitySet),
-    Refused(StatusCode),
-}
 
 impl AbilitySet {
     pub const EMPTY: AbilitySet = AbilitySet(0);
@@ -79,29 +54,32 @@ impl AbilitySet {
     pub const ALL: AbilitySet = AbilitySet(15);
 
     // A byte is a set where each of its bits is an ability.
-    pub fn from_u8(byte: u8) -> AbilitySetResult
+    pub fn from_u8(byte: u8) -> Option<AbilitySet>
         ensures { result ≡ from_u8 byte }
     {
         if byte & AbilitySet::ALL.0 == byte {
-            AbilitySetResult::Some(AbilitySet(byte))
+            Some(AbilitySet(byte))
         } else {
-            AbilitySetResult::None
+            None
         }
     }
 
+    #[tactic(auto, unfolding(definitions::specs::AbilitySet::has_ability))]
     pub fn has_ability(self, ability: Ability) -> bool
         ensures { result ≡ has_ability self.0 (ability_of ability) }
     {
-        let a = ability.bit();
+        let a = ability as u8;
         a & self.0 == a
     }
 
+    #[tactic(auto, unfolding(definitions::specs::AbilitySet::union))]
     fn union(self, other: AbilitySet) -> AbilitySet
         ensures { result ≡ set_of (union self.0 other.0) }
     {
         AbilitySet(self.0 | other.0)
     }
 
+    #[tactic(auto, unfolding(definitions::specs::AbilitySet::intersect))]
     fn intersect(self, other: AbilitySet) -> AbilitySet
         ensures { result ≡ set_of (intersect self.0 other.0) }
     {
@@ -109,6 +87,7 @@ impl AbilitySet {
     }
 
     // One turn of the union below: `acc`, with what the ability is required by if this set has it.
+    #[tactic(auto, unfolding(definitions::specs::AbilitySet::with_required_by))]
     fn with_required_by(self, acc: AbilitySet, ability: Ability) -> AbilitySet
         ensures { result ≡ set_of (with_required_by self.0 acc.0 (ability_of ability)) }
     {
@@ -120,6 +99,7 @@ impl AbilitySet {
     }
 
     // The union of `required_by` over the set: what a type argument with these abilities leaves to the type.
+    #[tactic(auto, unfolding(definitions::specs::AbilitySet::required_by_any))]
     fn required_by_any(self) -> AbilitySet
         ensures { result ≡ set_of (required_by_any self.0) }
     {
@@ -130,6 +110,7 @@ impl AbilitySet {
     }
 
     // This set after one more type argument, whose abilities are a byte; 1 marks a phantom parameter.
+    #[tactic(auto, unfolding(definitions::specs::AbilitySet::meet_argument))]
     fn meet_argument(self, phantom: u8, argument: u8) -> AbilitySet
         ensures { result ≡ set_of (meet_argument self.0 (is_phantom_byte phantom) argument) }
     {
@@ -141,19 +122,25 @@ impl AbilitySet {
     }
 
     // The abilities of a generic type over its arguments. They must be as many as its parameters.
-    pub fn polymorphic_abilities(declared: AbilitySet, phantoms: &[u8], sets: &[u8]) -> Abilities
+    #[tactic(auto, using(crate::proofs::Sets::unequal))]
+    pub fn polymorphic_abilities(
+        declared: AbilitySet,
+        phantoms: &[u8],
+        sets: &[u8],
+    ) -> PartialVMResult<AbilitySet>
         ensures { result ≡ abilities_answer (polymorphic_abilities declared.0 (map is_phantom_byte phantoms.now) sets.now) }
     {
         if phantoms.len() != sets.len() {
-            return Abilities::Refused(StatusCode::VERIFIER_INVARIANT_VIOLATION);
+            return Err(StatusCode::VERIFIER_INVARIANT_VIOLATION);
         }
-        let mut acc = declared;
-        let mut i = 0;
-        while i < sets.len() {
-            acc = acc.meet_argument(phantoms[i], sets[i]);
-            i += 1;
-        }
-        Abilities::Found(acc)
+        Ok(
+            phantoms
+                .iter()
+                .zip(sets)
+                .fold(declared, |acc, (phantom, argument)| {
+                    acc.meet_argument(*phantom, *argument)
+                }),
+        )
     }
 
     // A constant has no contract of its own: this states the value of each.
@@ -170,7 +157,8 @@ impl AbilitySet {
     }
 }
 
-// An index into each table of a unit. The types differ, so that one is not taken for another.
+// An index into each table of a unit. The types differ, so that one is not taken for another; they are tuple structs under the names of
+// file_format.rs, as document 01 asks, and not one type with a parameter.
 #[derive(Clone, Copy)]
 pub struct StructHandleIndex(pub u16);
 

@@ -6,21 +6,33 @@ use Rattle.definitions.specs.Result.{ok, at}
 use Rattle.definitions.specs.SignatureToken.{Signature}
 use Rattle.definitions.specs.CompiledUnit as defs
 use Rattle.definitions.specs.Reader.{compiled_unit, items, ability, signature_of, function_view}
-use Rattle.record_views.specs.Records.{ListIs}
+use Rattle.record_views.specs.Records.{ListIs, ListAt}
 use Rattle.unit.specs.declared.View.{View}
 use Rattle.record_views.specs.declared.TypeList.{TypeList}
-use Rattle.unit_views.specs.declared.SignatureResult.{SignatureResult}
 use Rattle.std.proofs.Math.Decide.{dec_le}
 use Rattle.status.specs.declared.StatusCode.TheVariants.{VALUE}
 use Rattle.definitions.specs.Reading.{read, here, need, byte, u16, many}
 use Rattle.record_reader.specs.Apart.{u16_of, parts, made, u16_read}
 use Rattle.unit.specs.Standing.{then-parts, here_is, needed}
 use Rattle.unit.specs.Views.{UnitRead, view_of}
-use Rattle.unit_tables.specs.Tables.{past, stand, signatures_in}
-use Rattle.unit_views.specs.Answers.{SignatureIs, signature_found}
+use Rattle.unit_tables.specs.declared.UnitView.{UnitView}
+use Rattle.unit_tables.specs.Compiled.{unit_read, compiled, signatures_fit}
+use Rattle.unit_views.specs.Lookups.{signature_room}
+use Rattle.function_views.specs.declared.FunctionTypes.{FunctionTypes}
+use Rattle.function_views.specs.declared.FunctionTypes.TheVariants.{Parameters, Return, Locals}
+use Rattle.unit_tables.specs.Tables.{past, stand, signatures_in, unit_short, EntryIs, found}
 
-pub record Returns (s : List ℕ) (u : defs.CompiledUnit) (r : TypeList) : Type 0 where
-  pub is : ListIs s u.function.return r
+-- the list of the function that is meant
+abbrev pub types_of : FunctionTypes → defs.FunctionView → Signature
+types_of Parameters v = v.parameters
+types_of Return v = v.return
+types_of Locals v = v.locals
+
+-- where its signature's index stands in the function's record
+abbrev pub offset_of : FunctionTypes → ℕ
+offset_of Parameters = 1
+offset_of Return = 3
+offset_of Locals = 5
 
 -- the index of the signature ts stands at p
 pub record Names (s : List ℕ) (l : List Signature) (p : ℕ) (ts : Signature) : Type 0 where
@@ -80,41 +92,46 @@ function_read l s p h =
     let z = signature_read l s (p + 5) (ap (signature_of l s) n ∙ c.first) in
     rw (← (made s f.second).0) (record { parameters = x.names; return = y.names; locals = z.names })
 
--- a signature of the unit, whose index stands at p
-pub record TypesNamed (s index : List ℕ) (view : View) (p : ℕ) : Type 0 where
-  pub unit : UnitRead s index view
-  pub types : Signature
-  pub names : Names s (compiled_unit unit.decoded).signatures p types
-
 module _ {s index : List ℕ} {view : View} (u : UnitRead s index view) where
-  pub function_at : FunctionRead s (compiled_unit u.decoded).signatures view.function (compiled_unit u.decoded).function
+  function_at : FunctionRead s (compiled_unit u.decoded).signatures view.function (compiled_unit u.decoded).function
   unfolding view_of compiled_unit
   function_at = rw u.viewed (function_read (items u.decoded.signatures) s u.decoded.function.start (stand u).function.1)
 
-  abbrev pub parameters_named : TypesNamed s index view (view.function + 1)
-  parameters_named = record { unit = u; types = (compiled_unit u.decoded).function.parameters; names = function_at.parameters }
-
-  abbrev pub return_named : TypesNamed s index view (view.function + 3)
-  return_named = record { unit = u; types = (compiled_unit u.decoded).function.return; names = function_at.return }
-
-  abbrev pub locals_named : TypesNamed s index view (view.function + 5)
-  locals_named = record { unit = u; types = (compiled_unit u.decoded).function.locals; names = function_at.locals }
-
-module _ {s index : List ℕ} {view : View} {p i : ℕ} (k : TypesNamed s index view p) (e : i ≡ u16_of s p) where
-  named_is : at (compiled_unit k.unit.decoded).signatures i ≡ ok k.types
-  named_is = ap (at (compiled_unit k.unit.decoded).signatures) e ∙ k.names.is
-
-  pub named_below : i < view.signatures.count
-  named_below = go (dec_le view.signatures.count i)
+module _ (unit : UnitView) (which : FunctionTypes) where
+  names_at : Names unit.bytes.now (compiled unit).signatures (unit.view.function + offset_of which) (types_of which (compiled unit).function)
+  names_at = go which
     where
-      go : Dec (view.signatures.count ≤ i) → i < view.signatures.count
-      go (yes h) = let z : ◌≡◌ {A = ℕ} 0 1 = let y = past (signatures_in k.unit) h in let x = named_is in cc in absurd (omega arith)
-      go (no h) = omega arith
+      go : (w : FunctionTypes) → Names unit.bytes.now (compiled unit).signatures (unit.view.function + offset_of w) (types_of w (compiled unit).function)
+      go Parameters = (function_at (unit_read unit)).parameters
+      go Return = (function_at (unit_read unit)).return
+      go Locals = (function_at (unit_read unit)).locals
 
-  pub named_here : {r : TypeList} → SignatureIs s (defs.signature_at (compiled_unit k.unit.decoded) i) (SignatureResult.Found r) → ListIs s k.types r
-  unfolding defs.signature_at
-  named_here {r} w =
-      let (ts, q, l) = signature_found w refl in
-      let y = named_is in
-      let x : ts ≡ k.types = cc in
-      rw x at l
+  -- the index is one of the unit's bytes
+  pub named_room : unit.view.function + offset_of which + 1 < 32768
+  named_room = let h = unit_short (unit_read unit) in omega (arith, names_at.within)
+
+  pub named_within : unit.view.function + offset_of which + 1 < length unit.bytes.now
+  named_within = names_at.within
+
+  module _ {i : ℕ} (e : i ≡ u16_of unit.bytes.now (unit.view.function + offset_of which)) where
+    named_is : at (compiled unit).signatures i ≡ ok (types_of which (compiled unit).function)
+    named_is = ap (at (compiled unit).signatures) e ∙ names_at.is
+
+    -- and one of the table
+    pub named_below : i < unit.view.signatures.count
+    named_below = go (dec_le unit.view.signatures.count i)
+      where
+        go : Dec (unit.view.signatures.count ≤ i) → i < unit.view.signatures.count
+        go (yes h) = let z : ◌≡◌ {A = ℕ} 0 1 = let y = past (signatures_in (unit_read unit)) h in let x = named_is in cc in absurd (omega arith)
+        go (no h) = omega arith
+
+    pub named_here : {p : ℕ} {r : TypeList} → EntryIs unit.index.now unit.view.signatures i p → ListAt unit.bytes.now (p + 1) r → ListIs unit.bytes.now (types_of which (compiled unit).function) r
+    unfolding compiled_unit
+    named_here w l =
+        let x = found (signatures_in (unit_read unit)) w in
+        let y = named_is in
+        let z = x.is in
+        let q : x.item ≡ types_of which (compiled unit).function = cc in
+        rw q at (l (compiled unit).head x.item _ x.stands.reads)
+
+pub ruleset named_laws = (signatures_fit, signature_room, named_room, named_within, named_below)

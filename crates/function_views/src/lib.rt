@@ -1,44 +1,37 @@
 // The types of the function of a unit that was read: those of its parameters, those that it returns, and those of its other locals.
 #![tactic(auto)]
 
-ghost use Rattle.definitions.specs.Reader.{compiled_unit};
+ghost use Rattle.std.specs.Prelude.{◌≡◌};
 ghost use Rattle.record_views.specs.Records.{ListIs};
-ghost use Rattle.unit.specs.Views.{UnitRead};
-ghost use Rattle.function_views.specs.Named.{TypesNamed, Returns};
+ghost use Rattle.unit_tables.specs.Compiled.{compiled};
+ghost use Rattle.function_views.specs.Named.{types_of, offset_of};
 
 use record_views::TypeList;
-use unit::View;
+use unit_tables::UnitView;
 
-// The types of the signature whose index stands at `at`.
-fn types_named_at(s: &[u8], index: &[u16], view: View, at: usize) -> TypeList
-    requires { TypesNamed s.now index.now view at }
-    ensures { (q : TypesNamed s.now index.now view at) → ListIs s.now q.types result }
-{
-    let signature = numbers::u16_at(s, at);
-    let p = unit_tables::place(index, view.signatures, numbers::widest(signature));
-    record_views::type_list(s, p + 1)
+// A list of types of the function, each by the place of its signature's index in the function's record.
+#[derive(Clone, Copy)]
+pub enum FunctionTypes {
+    Parameters = 1,
+    Return = 3,
+    Locals = 5,
 }
 
-// The types of the function's parameters.
-pub fn parameters(s: &[u8], index: &[u16], view: View) -> TypeList
-    requires { UnitRead s.now index.now view }
-    ensures { (p : UnitRead s.now index.now view) → ListIs s.now (compiled_unit p.decoded).function.parameters result }
-{
-    types_named_at(s, index, view, view.function + 1)
+impl FunctionTypes {
+    // Where the signature's index stands, from the record's command on.
+    fn offset(self) -> usize
+        ensures { result ≡ offset_of self }
+    {
+        self as usize
+    }
 }
 
-// The types that the function returns.
-pub fn returns(s: &[u8], index: &[u16], view: View) -> TypeList
-    requires { UnitRead s.now index.now view }
-    ensures { (p : UnitRead s.now index.now view) → Returns s.now (compiled_unit p.decoded) result }
+// The types of one of the function's lists.
+#[tactic(auto, using(crate::specs::Named::named_laws))]
+pub fn function_types(unit: &UnitView<'_>, which: FunctionTypes) -> TypeList
+    ensures { ListIs unit.now.bytes.now (types_of which (compiled unit.now).function) result }
 {
-    types_named_at(s, index, view, view.function + 3)
-}
-
-// The types of the function's locals other than its parameters.
-pub fn locals(s: &[u8], index: &[u16], view: View) -> TypeList
-    requires { UnitRead s.now index.now view }
-    ensures { (p : UnitRead s.now index.now view) → ListIs s.now (compiled_unit p.decoded).function.locals result }
-{
-    types_named_at(s, index, view, view.function + 5)
+    let signature = numbers::u16_at(unit.bytes, unit.view.function + which.offset());
+    let p = unit.place(unit.view.signatures, usize::from(signature));
+    record_views::type_list(unit.bytes, p + 1)
 }

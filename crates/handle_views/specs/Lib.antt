@@ -2,4 +2,3 @@
 pub mod Pairs
 pub mod Answers
 pub mod Lookups
-pub mod Told

@@ -1,66 +1,78 @@
--- What a look-up may answer, and what it may read, where the table has the entry and where it has not.
-use Rattle.std.specs.Prelude.{◌≡◌, List, ℕ}
-use Rattle.std.proofs.Common.{◌∙◌}
-use Rattle.status.specs.declared.StatusCode.TheVariants.{INVALID_OPERATION_IN_SCRIPT}
-use Rattle.definitions.specs.Result.{err, at}
+-- What a look-up may answer where the table has the record, where it has not, and where a script has no such table.
+use Rattle.std.specs.Prelude.{◌≡◌, ℕ}
+use Rattle.std.proofs.Common.{sym, ◌∙◌, ⊎_elim}
+use Rattle.status.specs.declared.StatusCode.{StatusCode}
+use Rattle.definitions.specs.Result.{ok, err, at}
 use Rattle.definitions.specs.CompiledUnit as defs
-use Rattle.definitions.specs.Reader.{compiled_unit, function_handle, function_instantiation, struct_def_instantiation, field_handle, field_instantiation}
-use Rattle.unit.specs.declared.Head.{Head}
-use Rattle.unit.specs.declared.View.{View}
-use Rattle.unit.specs.Views.{UnitRead}
-use Rattle.handle_views.specs.declared.PairAt.{PairAt}
-use Rattle.unit_tables.specs.Tables.{function_handles_in, function_instantiations_in, struct_instantiations_in, field_handles_in, field_instantiations_in, in_module_law, in_script}
-use Rattle.handle_views.specs.Pairs.{PairIs, pair_result, pairs_fit, pair_answer, PairsFit}
+use Rattle.definitions.specs.Reader.{function_handle, function_instantiation, struct_def_instantiation, field_handle, field_instantiation}
+use Rattle.unit_tables.specs.declared.UnitView.{UnitView}
+use Rattle.unit_tables.specs.Compiled.{unit_read, compiled, in_module, in_script}
+use Rattle.unit_tables.specs.Tables.{PastIs, refused_past, function_handles_in, function_instantiations_in, struct_instantiations_in, field_handles_in, field_instantiations_in}
+use Rattle.handle_views.specs.Pairs.{PairIs, ModulePairIs, IsRefusedAs, pairs_fit, pair_found, PairsFit}
 
-module _ {s index : List ℕ} {view : View} (u : UnitRead s index view) where
-  pub function_handles_fit : PairsFit s index view.function_handles
+module _ (unit : UnitView) where
+  pub function_handle_fit : PairsFit unit.bytes.now unit.index.now unit.view.function_handles
   unfolding function_handle
-  function_handles_fit = pairs_fit _ (function_handles_in u)
+  function_handle_fit = pairs_fit _ (function_handles_in (unit_read unit))
 
-  pub function_handle_is : {i : ℕ} {r : PairAt} → PairIs s index view.function_handles i r → (x : PairAt) → r ≡ x → defs.function_handle_at (compiled_unit u.decoded) i ≡ pair_result (λ a b. record { parameters = a; return = b }) x
+  pub function_handle_found : {i : ℕ} {r : ℕ × ℕ} → PairIs unit.bytes.now unit.index.now unit.view.function_handles i r → ok (record { parameters = r.0; return = r.1 }) ≡ defs.function_handle_at (compiled unit) i
   unfolding function_handle defs.function_handle_at
-  function_handle_is e x k = pair_answer _ (function_handles_in u) e x k
+  function_handle_found w = pair_found _ (function_handles_in (unit_read unit)) w
 
-  pub function_instantiations_fit : PairsFit s index view.function_instantiations
+  pub function_handle_refused : {i : ℕ} {v : StatusCode} → PastIs unit.view.function_handles i v → err v ≡ defs.function_handle_at (compiled unit) i
+  unfolding defs.function_handle_at
+  function_handle_refused w = sym (refused_past (function_handles_in (unit_read unit)) w)
+
+  pub function_instantiation_fit : PairsFit unit.bytes.now unit.index.now unit.view.function_instantiations
   unfolding function_instantiation
-  function_instantiations_fit = pairs_fit _ (function_instantiations_in u)
+  function_instantiation_fit = pairs_fit _ (function_instantiations_in (unit_read unit))
 
-  pub function_instantiation_is : {i : ℕ} {r : PairAt} → PairIs s index view.function_instantiations i r → (x : PairAt) → r ≡ x → defs.function_instantiation_at (compiled_unit u.decoded) i ≡ pair_result (λ a b. record { handle = a; type_parameters = b }) x
+  pub function_instantiation_found : {i : ℕ} {r : ℕ × ℕ} → PairIs unit.bytes.now unit.index.now unit.view.function_instantiations i r → ok (record { handle = r.0; type_parameters = r.1 }) ≡ defs.function_instantiation_at (compiled unit) i
   unfolding function_instantiation defs.function_instantiation_at
-  function_instantiation_is e x k = pair_answer _ (function_instantiations_in u) e x k
+  function_instantiation_found w = pair_found _ (function_instantiations_in (unit_read unit)) w
 
-  pub struct_instantiations_fit : PairsFit s index view.struct_instantiations
+  pub function_instantiation_refused : {i : ℕ} {v : StatusCode} → PastIs unit.view.function_instantiations i v → err v ≡ defs.function_instantiation_at (compiled unit) i
+  unfolding defs.function_instantiation_at
+  function_instantiation_refused w = sym (refused_past (function_instantiations_in (unit_read unit)) w)
+
+  pub struct_instantiation_fit : PairsFit unit.bytes.now unit.index.now unit.view.struct_instantiations
   unfolding struct_def_instantiation
-  struct_instantiations_fit = pairs_fit _ (struct_instantiations_in u)
+  struct_instantiation_fit = pairs_fit _ (struct_instantiations_in (unit_read unit))
 
-  pub struct_instantiation_is : {i : ℕ} {r : PairAt} → view.head ≡ Head.Module → PairIs s index view.struct_instantiations i r → (x : PairAt) → r ≡ x → defs.struct_instantiation_at (compiled_unit u.decoded) i ≡ pair_result (λ a b. record { def = a; type_parameters = b }) x
+  pub struct_instantiation_found : {i : ℕ} {r : ℕ × ℕ} → ModulePairIs unit unit.view.struct_instantiations i r → ok (record { def = r.0; type_parameters = r.1 }) ≡ defs.struct_instantiation_at (compiled unit) i
   unfolding struct_def_instantiation defs.struct_instantiation_at
-  struct_instantiation_is q e x k = in_module_law u (at (compiled_unit u.decoded).struct_instantiations _) q ∙ pair_answer _ (struct_instantiations_in u) e x k
+  struct_instantiation_found w = pair_found _ (struct_instantiations_in (unit_read unit)) w.pair ∙ sym (in_module _ (at (compiled unit).struct_instantiations _) w.head)
 
-  pub struct_instantiation_script : (i : ℕ) → view.head ≡ Head.Script → defs.struct_instantiation_at (compiled_unit u.decoded) i ≡ err INVALID_OPERATION_IN_SCRIPT
+  pub struct_instantiation_refused : {i : ℕ} {v : StatusCode} → IsRefusedAs unit unit.view.struct_instantiations i v → err v ≡ defs.struct_instantiation_at (compiled unit) i
   unfolding defs.struct_instantiation_at
-  struct_instantiation_script i q = in_script u _ q
+  struct_instantiation_refused w =
+      ⊎_elim (λ e. sym (in_script _ (at (compiled unit).struct_instantiations _) e))
+      (λ (e, k). sym (in_module _ (at (compiled unit).struct_instantiations _) e ∙ refused_past (struct_instantiations_in (unit_read unit)) k)) w.is
 
-  pub field_handles_fit : PairsFit s index view.field_handles
+  pub field_handle_fit : PairsFit unit.bytes.now unit.index.now unit.view.field_handles
   unfolding field_handle
-  field_handles_fit = pairs_fit _ (field_handles_in u)
+  field_handle_fit = pairs_fit _ (field_handles_in (unit_read unit))
 
-  pub field_handle_is : {i : ℕ} {r : PairAt} → view.head ≡ Head.Module → PairIs s index view.field_handles i r → (x : PairAt) → r ≡ x → defs.field_handle_at (compiled_unit u.decoded) i ≡ pair_result (λ a b. record { owner = a; field = b }) x
+  pub field_handle_found : {i : ℕ} {r : ℕ × ℕ} → ModulePairIs unit unit.view.field_handles i r → ok (record { owner = r.0; field = r.1 }) ≡ defs.field_handle_at (compiled unit) i
   unfolding field_handle defs.field_handle_at
-  field_handle_is q e x k = in_module_law u (at (compiled_unit u.decoded).field_handles _) q ∙ pair_answer _ (field_handles_in u) e x k
+  field_handle_found w = pair_found _ (field_handles_in (unit_read unit)) w.pair ∙ sym (in_module _ (at (compiled unit).field_handles _) w.head)
 
-  pub field_handle_script : (i : ℕ) → view.head ≡ Head.Script → defs.field_handle_at (compiled_unit u.decoded) i ≡ err INVALID_OPERATION_IN_SCRIPT
+  pub field_handle_refused : {i : ℕ} {v : StatusCode} → IsRefusedAs unit unit.view.field_handles i v → err v ≡ defs.field_handle_at (compiled unit) i
   unfolding defs.field_handle_at
-  field_handle_script i q = in_script u _ q
+  field_handle_refused w =
+      ⊎_elim (λ e. sym (in_script _ (at (compiled unit).field_handles _) e))
+      (λ (e, k). sym (in_module _ (at (compiled unit).field_handles _) e ∙ refused_past (field_handles_in (unit_read unit)) k)) w.is
 
-  pub field_instantiations_fit : PairsFit s index view.field_instantiations
+  pub field_instantiation_fit : PairsFit unit.bytes.now unit.index.now unit.view.field_instantiations
   unfolding field_instantiation
-  field_instantiations_fit = pairs_fit _ (field_instantiations_in u)
+  field_instantiation_fit = pairs_fit _ (field_instantiations_in (unit_read unit))
 
-  pub field_instantiation_is : {i : ℕ} {r : PairAt} → view.head ≡ Head.Module → PairIs s index view.field_instantiations i r → (x : PairAt) → r ≡ x → defs.field_instantiation_at (compiled_unit u.decoded) i ≡ pair_result (λ a b. record { handle = a; type_parameters = b }) x
+  pub field_instantiation_found : {i : ℕ} {r : ℕ × ℕ} → ModulePairIs unit unit.view.field_instantiations i r → ok (record { handle = r.0; type_parameters = r.1 }) ≡ defs.field_instantiation_at (compiled unit) i
   unfolding field_instantiation defs.field_instantiation_at
-  field_instantiation_is q e x k = in_module_law u (at (compiled_unit u.decoded).field_instantiations _) q ∙ pair_answer _ (field_instantiations_in u) e x k
+  field_instantiation_found w = pair_found _ (field_instantiations_in (unit_read unit)) w.pair ∙ sym (in_module _ (at (compiled unit).field_instantiations _) w.head)
 
-  pub field_instantiation_script : (i : ℕ) → view.head ≡ Head.Script → defs.field_instantiation_at (compiled_unit u.decoded) i ≡ err INVALID_OPERATION_IN_SCRIPT
+  pub field_instantiation_refused : {i : ℕ} {v : StatusCode} → IsRefusedAs unit unit.view.field_instantiations i v → err v ≡ defs.field_instantiation_at (compiled unit) i
   unfolding defs.field_instantiation_at
-  field_instantiation_script i q = in_script u _ q
+  field_instantiation_refused w =
+      ⊎_elim (λ e. sym (in_script _ (at (compiled unit).field_instantiations _) e))
+      (λ (e, k). sym (in_module _ (at (compiled unit).field_instantiations _) e ∙ refused_past (field_instantiations_in (unit_read unit)) k)) w.is

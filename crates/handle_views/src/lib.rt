@@ -2,26 +2,22 @@
 // script lacks is INVALID_OPERATION_IN_SCRIPT, an index past a table OUT_OF_TABLE.
 #![tactic(auto)]
 
-ghost use Rattle.std.specs.Prelude.{◌≡◌};
+ghost use Rattle.std.specs.Prelude.{◌≡◌, MatchResult};
 ghost use Rattle.definitions.specs.CompiledUnit as defs;
-ghost use Rattle.definitions.specs.Reader.{compiled_unit};
-ghost use Rattle.unit.specs.Views.{UnitRead};
-ghost use Rattle.handle_views.specs.Pairs.{PairsFit, PairIs};
-ghost use Rattle.handle_views.specs.Answers.{function_handle_answer, function_instantiation_answer, struct_instantiation_answer, field_handle_answer, field_instantiation_answer};
+ghost use Rattle.unit_tables.specs.Answers.{told};
+ghost use Rattle.unit_tables.specs.Compiled.{compiled};
+ghost use Rattle.unit_tables.specs.Tables.{PastIs};
+ghost use Rattle.handle_views.specs.Pairs.{PairsFit, PairIs, ModulePairIs, IsRefusedAs};
+ghost use Rattle.handle_views.specs.Answers.{handle_of, instantiation_of, struct_instantiation_of, field_handle_of, field_instantiation_of};
 
 use file_format::{
     FieldHandleIndex, FieldInstantiationIndex, FunctionHandleIndex, FunctionInstantiationIndex,
     SignatureIndex, StructDefInstantiationIndex, StructDefinitionIndex,
 };
-use status::StatusCode;
-use unit::{Head, Table, View};
-
-// The two numbers of a record, or that the index is past the table.
-#[derive(Clone, Copy)]
-enum PairAt {
-    Pair(u16, u16),
-    OutOfTable,
-}
+use numbers::u16_at;
+use status::PartialVMResult;
+use unit::Table;
+use unit_tables::UnitView;
 
 #[derive(Clone, Copy)]
 pub struct FunctionHandle {
@@ -53,148 +49,91 @@ pub struct FieldInstantiation {
     pub type_parameters: SignatureIndex,
 }
 
-#[derive(Clone, Copy)]
-pub enum FunctionHandleResult {
-    Found(FunctionHandle),
-    Refused(StatusCode),
-}
-
-#[derive(Clone, Copy)]
-pub enum FunctionInstantiationResult {
-    Found(FunctionInstantiation),
-    Refused(StatusCode),
-}
-
-#[derive(Clone, Copy)]
-pub enum StructInstantiationResult {
-    Found(StructDefInstantiation),
-    Refused(StatusCode),
-}
-
-#[derive(Clone, Copy)]
-pub enum FieldHandleResult {
-    Found(FieldHandle),
-    Refused(StatusCode),
-}
-
-#[derive(Clone, Copy)]
-pub enum FieldInstantiationResult {
-    Found(FieldInstantiation),
-    Refused(StatusCode),
-}
-
-// Record i of a table whose records have two numbers.
-fn pair_at(s: &[u8], index: &[u16], table: Table, i: u16) -> PairAt
-    requires { PairsFit s.now index.now table }
-    ensures { PairIs s.now index.now table i result }
+// The two numbers of record i of a table. The five look-ups differ in the table, in what the numbers are, and in whether a script has it.
+#[tactic(auto, using(crate::specs::Pairs::pair_laws))]
+fn pair_at(unit: &UnitView<'_>, table: Table, i: u16) -> PartialVMResult<(u16, u16)>
+    requires { PairsFit unit.now.bytes.now unit.now.index.now table }
+    ensures { MatchResult result (PairIs unit.now.bytes.now unit.now.index.now table i) (PastIs table i) }
 {
-    if table.count <= i {
-        return PairAt::OutOfTable;
-    }
-    let p = unit_tables::place(index, table, numbers::widest(i));
-    PairAt::Pair(numbers::u16_at(s, p + 1), numbers::u16_at(s, p + 3))
+    let p = unit.look_up(table, i)?;
+    Ok((u16_at(unit.bytes, p + 1), u16_at(unit.bytes, p + 3)))
 }
 
+// The same of a table that a script lacks.
+#[tactic(auto, using(crate::specs::Pairs::module_laws))]
+fn module_pair_at(unit: &UnitView<'_>, table: Table, i: u16) -> PartialVMResult<(u16, u16)>
+    requires { PairsFit unit.now.bytes.now unit.now.index.now table }
+    ensures { MatchResult result (ModulePairIs unit.now table i) (IsRefusedAs unit.now table i) }
+{
+    unit.in_module()?;
+    pair_at(unit, table, i)
+}
+
+// A function handle.
+#[tactic(auto, using(crate::specs::Lookups::function_handle_refused))]
 pub fn function_handle_at(
-    s: &[u8],
-    index: &[u16],
-    view: View,
+    unit: &UnitView<'_>,
     idx: FunctionHandleIndex,
-) -> FunctionHandleResult
-    requires { UnitRead s.now index.now view }
-    ensures { (p : UnitRead s.now index.now view) → result ≡ function_handle_answer (defs.function_handle_at (compiled_unit p.decoded) idx.0) }
+) -> PartialVMResult<FunctionHandle>
+    ensures { told handle_of result ≡ defs.function_handle_at (compiled unit.now) idx.0 }
 {
-    match pair_at(s, index, view.function_handles, idx.0) {
-        PairAt::Pair(first, second) => FunctionHandleResult::Found(FunctionHandle {
-            parameters: SignatureIndex(first),
-            return_: SignatureIndex(second),
-        }),
-        PairAt::OutOfTable => FunctionHandleResult::Refused(StatusCode::OUT_OF_TABLE),
-    }
+    let (parameters, return_) = pair_at(unit, unit.view.function_handles, idx.0)?;
+    Ok(FunctionHandle {
+        parameters: SignatureIndex(parameters),
+        return_: SignatureIndex(return_),
+    })
 }
 
+// A function handle with its type arguments' signature.
+#[tactic(auto, using(crate::specs::Lookups::function_instantiation_refused))]
 pub fn function_instantiation_at(
-    s: &[u8],
-    index: &[u16],
-    view: View,
+    unit: &UnitView<'_>,
     idx: FunctionInstantiationIndex,
-) -> FunctionInstantiationResult
-    requires { UnitRead s.now index.now view }
-    ensures { (p : UnitRead s.now index.now view) → result ≡ function_instantiation_answer (defs.function_instantiation_at (compiled_unit p.decoded) idx.0) }
+) -> PartialVMResult<FunctionInstantiation>
+    ensures { told instantiation_of result ≡ defs.function_instantiation_at (compiled unit.now) idx.0 }
 {
-    match pair_at(s, index, view.function_instantiations, idx.0) {
-        PairAt::Pair(first, second) => FunctionInstantiationResult::Found(FunctionInstantiation {
-            handle: FunctionHandleIndex(first),
-            type_parameters: SignatureIndex(second),
-        }),
-        PairAt::OutOfTable => FunctionInstantiationResult::Refused(StatusCode::OUT_OF_TABLE),
-    }
+    let (handle, type_parameters) = pair_at(unit, unit.view.function_instantiations, idx.0)?;
+    Ok(FunctionInstantiation {
+        handle: FunctionHandleIndex(handle),
+        type_parameters: SignatureIndex(type_parameters),
+    })
 }
 
+// A struct definition with its type arguments' signature.
 pub fn struct_instantiation_at(
-    s: &[u8],
-    index: &[u16],
-    view: View,
+    unit: &UnitView<'_>,
     idx: StructDefInstantiationIndex,
-) -> StructInstantiationResult
-    requires { UnitRead s.now index.now view }
-    ensures { (p : UnitRead s.now index.now view) → result ≡ struct_instantiation_answer (defs.struct_instantiation_at (compiled_unit p.decoded) idx.0) }
+) -> PartialVMResult<StructDefInstantiation>
+    ensures { told struct_instantiation_of result ≡ defs.struct_instantiation_at (compiled unit.now) idx.0 }
 {
-    let head = view.head;
-    match head {
-        Head::Script => StructInstantiationResult::Refused(StatusCode::INVALID_OPERATION_IN_SCRIPT),
-        Head::Module => match pair_at(s, index, view.struct_instantiations, idx.0) {
-            PairAt::Pair(first, second) => StructInstantiationResult::Found(
-                StructDefInstantiation {
-                    def: StructDefinitionIndex(first),
-                    type_parameters: SignatureIndex(second),
-                },
-            ),
-            PairAt::OutOfTable => StructInstantiationResult::Refused(StatusCode::OUT_OF_TABLE),
-        },
-    }
+    let (def, type_parameters) = module_pair_at(unit, unit.view.struct_instantiations, idx.0)?;
+    Ok(StructDefInstantiation {
+        def: StructDefinitionIndex(def),
+        type_parameters: SignatureIndex(type_parameters),
+    })
 }
 
-pub fn field_handle_at(
-    s: &[u8],
-    index: &[u16],
-    view: View,
-    idx: FieldHandleIndex,
-) -> FieldHandleResult
-    requires { UnitRead s.now index.now view }
-    ensures { (p : UnitRead s.now index.now view) → result ≡ field_handle_answer (defs.field_handle_at (compiled_unit p.decoded) idx.0) }
+// A field of a struct definition.
+pub fn field_handle_at(unit: &UnitView<'_>, idx: FieldHandleIndex) -> PartialVMResult<FieldHandle>
+    ensures { told field_handle_of result ≡ defs.field_handle_at (compiled unit.now) idx.0 }
 {
-    let head = view.head;
-    match head {
-        Head::Script => FieldHandleResult::Refused(StatusCode::INVALID_OPERATION_IN_SCRIPT),
-        Head::Module => match pair_at(s, index, view.field_handles, idx.0) {
-            PairAt::Pair(first, second) => FieldHandleResult::Found(FieldHandle {
-                owner: StructDefinitionIndex(first),
-                field: second,
-            }),
-            PairAt::OutOfTable => FieldHandleResult::Refused(StatusCode::OUT_OF_TABLE),
-        },
-    }
+    let (owner, field) = module_pair_at(unit, unit.view.field_handles, idx.0)?;
+    Ok(FieldHandle {
+        owner: StructDefinitionIndex(owner),
+        field,
+    })
 }
 
+// A field handle with its type arguments' signature.
 pub fn field_instantiation_at(
-    s: &[u8],
-    index: &[u16],
-    view: View,
+    unit: &UnitView<'_>,
     idx: FieldInstantiationIndex,
-) -> FieldInstantiationResult
-    requires { UnitRead s.now index.now view }
-    ensures { (p : UnitRead s.now index.now view) → result ≡ field_instantiation_answer (defs.field_instantiation_at (compiled_unit p.decoded) idx.0) }
+) -> PartialVMResult<FieldInstantiation>
+    ensures { told field_instantiation_of result ≡ defs.field_instantiation_at (compiled unit.now) idx.0 }
 {
-    let head = view.head;
-    match head {
-        Head::Script => FieldInstantiationResult::Refused(StatusCode::INVALID_OPERATION_IN_SCRIPT),
-        Head::Module => match pair_at(s, index, view.field_instantiations, idx.0) {
-            PairAt::Pair(first, second) => FieldInstantiationResult::Found(FieldInstantiation {
-                handle: FieldHandleIndex(first),
-                type_parameters: SignatureIndex(second),
-            }),
-            PairAt::OutOfTable => FieldInstantiationResult::Refused(StatusCode::OUT_OF_TABLE),
-        },
-    }
+    let (handle, type_parameters) = module_pair_at(unit, unit.view.field_instantiations, idx.0)?;
+    Ok(FieldInstantiation {
+        handle: FieldHandleIndex(handle),
+        type_parameters: SignatureIndex(type_parameters),
+    })
 }

@@ -1,51 +1,33 @@
 // What each instruction pops and pushes, as `instruction_effect` of stack_usage_verifier.rs tells it: by a table of the fixed effects, and by
-// look-ups for the nine opcodes that have none. The unit was read: `s` are its bytes, `index` and `view` say where its records and instructions
-// stand.
+// look-ups for the nine opcodes that have none.
 #![tactic(auto)]
 
 ghost use Rattle.std.specs.Prelude.{◌≡◌, true, ◌<◌};
 ghost use Rattle.definitions.specs.Result.{◌>>?◌};
 ghost use Rattle.definitions.specs.CompiledUnit.{function_handle_at, function_instantiation_at};
-ghost use Rattle.definitions.specs.Reader.{compiled_unit};
-ghost use Rattle.definitions.specs.StackUsage.{◌⇒◌, call_effect, field_count_at, field_count_of_instantiation};
-ghost use Rattle.unit.specs.Views.{UnitRead};
+ghost use Rattle.definitions.specs.StackUsage.{call_effect, field_count_at, field_count_of_instantiation};
+ghost use Rattle.unit_tables.specs.Answers.{told};
+ghost use Rattle.unit_tables.specs.Compiled.{compiled};
 ghost use Rattle.code_views.specs.Answers.{opcode_byte};
 ghost use Rattle.handle_views.specs.Answers.{handle_of};
 ghost use Rattle.instruction_effect.specs.Effects.{looks_up, EntryOf, EffectTable};
-ghost use Rattle.instruction_effect.specs.Answers.{effect_result, count_result, InstructionEffectAt};
+ghost use Rattle.instruction_effect.specs.Answers.{pops_and_pushes, InstructionEffectAt};
 
 use file_format::{
     FunctionHandleIndex, FunctionInstantiationIndex, StructDefInstantiationIndex,
     StructDefinitionIndex,
 };
-use handle_views::{
-    FunctionHandle, FunctionHandleResult, FunctionInstantiationResult, StructInstantiationResult,
-};
-use numbers::wide64;
+use function_views::FunctionTypes;
+use handle_views::FunctionHandle;
 use record_views::Fields;
-use status::StatusCode;
-use unit::View;
-use unit_views::{SignatureResult, StructDefResult};
+use status::PartialVMResult;
+use unit_tables::UnitView;
 
 // What an opcode pops and pushes.
 #[derive(Clone, Copy)]
 pub struct Effect(pub u8, pub u8);
 
-// The pops and the pushes of an instruction, or the status of a refusal: the Rust's `PartialVMResult<(u64, u64)>`.
-#[derive(Clone, Copy)]
-pub enum EffectResult {
-    Found(u64, u64),
-    Refused(StatusCode),
-}
-
-// How many fields a struct has, or the status of a refusal.
-#[derive(Clone, Copy)]
-enum FieldCount {
-    Found(u64),
-    Refused(StatusCode),
-}
-
-// The mark in the pair of an opcode whose effect is looked up.
+// The mark in the pair of an opcode whose effect is looked up. No Option: document 01 asks for a table of pairs.
 const LOOKED_UP: u8 = 0xFF;
 
 // The effects of the opcodes 0 to 70. The table is made once for a block, since a constant is made anew wherever it is named.
@@ -133,159 +115,109 @@ pub fn effects() -> [Effect; 71]
 // ── effects that are looked up ──
 
 // A call pops its parameters and pushes its returns.
-fn call_effect(s: &[u8], index: &[u16], view: View, handle: FunctionHandle) -> EffectResult
-    requires { UnitRead s.now index.now view }
-    ensures { (p : UnitRead s.now index.now view) → effect_result result ≡ call_effect (compiled_unit p.decoded) (handle_of handle) }
+fn call_effect(unit: &UnitView<'_>, handle: FunctionHandle) -> PartialVMResult<(u64, u64)>
+    ensures { told pops_and_pushes result ≡ call_effect (compiled unit.now) (handle_of handle) }
 {
-    match unit_views::signature_at(s, index, view, handle.parameters) {
-        SignatureResult::Refused(status) => EffectResult::Refused(status),
-        SignatureResult::Found(parameters) => {
-            match unit_views::signature_at(s, index, view, handle.return_) {
-                SignatureResult::Refused(status) => EffectResult::Refused(status),
-                SignatureResult::Found(returns) => {
-                    EffectResult::Found(wide64(parameters.count), wide64(returns.count))
-                }
-            }
-        }
-    }
+    let parameters = unit_views::signature_at(unit, handle.parameters)?;
+    let returns = unit_views::signature_at(unit, handle.return_)?;
+    Ok((parameters.count as u64, returns.count as u64))
 }
 
 // The effect of Call.
-fn call_effect_at(s: &[u8], index: &[u16], view: View, idx: FunctionHandleIndex) -> EffectResult
-    requires { UnitRead s.now index.now view }
-    ensures { (p : UnitRead s.now index.now view) → effect_result result ≡ (function_handle_at (compiled_unit p.decoded) idx.0 >>? call_effect (compiled_unit p.decoded)) }
+fn call_effect_at(unit: &UnitView<'_>, idx: FunctionHandleIndex) -> PartialVMResult<(u64, u64)>
+    ensures { told pops_and_pushes result ≡ (function_handle_at (compiled unit.now) idx.0 >>? call_effect (compiled unit.now)) }
 {
-    match handle_views::function_handle_at(s, index, view, idx) {
-        FunctionHandleResult::Refused(status) => EffectResult::Refused(status),
-        FunctionHandleResult::Found(handle) => call_effect(s, index, view, handle),
-    }
+    let handle = handle_views::function_handle_at(unit, idx)?;
+    call_effect(unit, handle)
 }
 
 // The effect of CallGeneric. Its type arguments are not looked up.
 fn call_generic_effect_at(
-    s: &[u8],
-    index: &[u16],
-    view: View,
+    unit: &UnitView<'_>,
     idx: FunctionInstantiationIndex,
-) -> EffectResult
-    requires { UnitRead s.now index.now view }
-    ensures { (p : UnitRead s.now index.now view) → effect_result result ≡ (function_instantiation_at (compiled_unit p.decoded) idx.0 >>? λ inst. function_handle_at (compiled_unit p.decoded) inst.handle >>? call_effect (compiled_unit p.decoded)) }
+) -> PartialVMResult<(u64, u64)>
+    ensures { told pops_and_pushes result ≡ (function_instantiation_at (compiled unit.now) idx.0 >>? λ inst. function_handle_at (compiled unit.now) inst.handle >>? call_effect (compiled unit.now)) }
 {
-    match handle_views::function_instantiation_at(s, index, view, idx) {
-        FunctionInstantiationResult::Refused(status) => EffectResult::Refused(status),
-        FunctionInstantiationResult::Found(inst) => call_effect_at(s, index, view, inst.handle),
-    }
+    let inst = handle_views::function_instantiation_at(unit, idx)?;
+    call_effect_at(unit, inst.handle)
 }
 
 // How many fields a struct has. A native struct counts none.
-fn field_count(s: &[u8], index: &[u16], view: View, idx: StructDefinitionIndex) -> FieldCount
-    requires { UnitRead s.now index.now view }
-    ensures { (p : UnitRead s.now index.now view) → count_result result ≡ field_count_at (compiled_unit p.decoded) idx.0 }
+#[tactic(auto, using(crate::proofs::Looked::field_laws))]
+fn field_count(unit: &UnitView<'_>, idx: StructDefinitionIndex) -> PartialVMResult<u64>
+    ensures { told (λ n. n) result ≡ field_count_at (compiled unit.now) idx.0 }
 {
-    match unit_views::struct_def_at(s, index, view, idx) {
-        StructDefResult::Refused(status) => FieldCount::Refused(status),
-        StructDefResult::Found(def) => {
-            let fields = def.fields;
-            match fields {
-                Fields::Native => FieldCount::Found(0),
-                Fields::Declared(list) => FieldCount::Found(wide64(list.count)),
-            }
-        }
+    let def = unit_views::struct_def_at(unit, idx)?;
+    match def.fields {
+        Fields::Native => Ok(0),
+        Fields::Declared(list) => Ok(list.count as u64),
     }
 }
 
 // The same of an instantiated struct. Its type arguments are not looked up.
 fn field_count_of_instantiation(
-    s: &[u8],
-    index: &[u16],
-    view: View,
+    unit: &UnitView<'_>,
     idx: StructDefInstantiationIndex,
-) -> FieldCount
-    requires { UnitRead s.now index.now view }
-    ensures { (p : UnitRead s.now index.now view) → count_result result ≡ field_count_of_instantiation (compiled_unit p.decoded) idx.0 }
+) -> PartialVMResult<u64>
+    ensures { told (λ n. n) result ≡ field_count_of_instantiation (compiled unit.now) idx.0 }
 {
-    match handle_views::struct_instantiation_at(s, index, view, idx) {
-        StructInstantiationResult::Refused(status) => FieldCount::Refused(status),
-        StructInstantiationResult::Found(inst) => field_count(s, index, view, inst.def),
-    }
+    let inst = handle_views::struct_instantiation_at(unit, idx)?;
+    field_count(unit, inst.def)
 }
 
-// A struct is packed of its fields.
-fn pack_effect(fields: FieldCount) -> EffectResult
-    ensures { effect_result result ≡ (count_result fields >>? λ n. n ⇒ 1) }
+// What the i-th instruction, one whose effect is looked up, pops and pushes: by the opcode's number, as document 01 has it.
+fn looked_up_effect(unit: &UnitView<'_>, i: usize) -> PartialVMResult<(u64, u64)>
+    requires i_lt_count { i < unit.now.view.code.count }
+    requires i_value { looks_up (opcode_byte unit.now i) ≡ true }
+    ensures { InstructionEffectAt (compiled unit.now) i result }
 {
-    match fields {
-        FieldCount::Refused(status) => EffectResult::Refused(status),
-        FieldCount::Found(n) => EffectResult::Found(n, 1),
-    }
-}
-
-// And unpacked into them.
-fn unpack_effect(fields: FieldCount) -> EffectResult
-    ensures { effect_result result ≡ (count_result fields >>? λ n. 1 ⇒ n) }
-{
-    match fields {
-        FieldCount::Refused(status) => EffectResult::Refused(status),
-        FieldCount::Found(n) => EffectResult::Found(1, n),
-    }
-}
-
-// What the i-th instruction, one whose effect is looked up, pops and pushes.
-fn looked_up_effect(s: &[u8], index: &[u16], view: View, i: usize) -> EffectResult
-    requires unit_read { UnitRead s.now index.now view }
-    requires i_lt_count { i < view.code.count }
-    requires i_value { looks_up (opcode_byte s.now index.now view i) ≡ true }
-    ensures { (p : UnitRead s.now index.now view) → InstructionEffectAt (compiled_unit p.decoded) i result }
-{
-    let instruction = code_views::instruction_at(s, index, view, i);
-    let opcode = instruction.opcode;
+    let instruction = code_views::instruction_at(unit, i);
     let x = instruction.operand;
     let n = instruction.count;
-    match opcode {
+    match instruction.opcode {
         // Ret
         1 => {
-            let returns = function_views::returns(s, index, view);
-            EffectResult::Found(wide64(returns.count), 0)
+            let returns = function_views::function_types(unit, FunctionTypes::Return);
+            Ok((returns.count as u64, 0))
         }
         // Call, CallGeneric
-        17 => call_effect_at(s, index, view, FunctionHandleIndex(x)),
-        18 => call_generic_effect_at(s, index, view, FunctionInstantiationIndex(x)),
-        // Pack, PackGeneric
-        19 => pack_effect(field_count(s, index, view, StructDefinitionIndex(x))),
-        20 => {
-            let inst = StructDefInstantiationIndex(x);
-            pack_effect(field_count_of_instantiation(s, index, view, inst))
-        }
-        // Unpack, UnpackGeneric
-        21 => unpack_effect(field_count(s, index, view, StructDefinitionIndex(x))),
-        22 => {
-            let inst = StructDefInstantiationIndex(x);
-            unpack_effect(field_count_of_instantiation(s, index, view, inst))
-        }
+        17 => call_effect_at(unit, FunctionHandleIndex(x)),
+        18 => call_generic_effect_at(unit, FunctionInstantiationIndex(x)),
+        // Pack, PackGeneric: a struct is packed of its fields.
+        19 => Ok((field_count(unit, StructDefinitionIndex(x))?, 1)),
+        20 => Ok((
+            field_count_of_instantiation(unit, StructDefInstantiationIndex(x))?,
+            1,
+        )),
+        // Unpack, UnpackGeneric: and unpacked into them.
+        21 => Ok((1, field_count(unit, StructDefinitionIndex(x))?)),
+        22 => Ok((
+            1,
+            field_count_of_instantiation(unit, StructDefInstantiationIndex(x))?,
+        )),
         // VecPack, VecUnpack
-        63 => EffectResult::Found(n, 1),
-        _ => EffectResult::Found(1, n),
+        63 => Ok((n, 1)),
+        _ => Ok((1, n)),
     }
 }
 
 // ── any instruction ──
 
-// What the i-th instruction pops and pushes: the pair that the table has for its opcode, and only where that is marked by the whole instruction.
+// What the i-th instruction pops and pushes, the Rust's `(num_pops, num_pushes)`: the pair that the table has for its opcode, and only where that
+// is marked by the whole instruction.
+#[tactic(auto, using(crate::proofs::Looked::marked))]
 pub fn instruction_effect(
     pair: Effect,
-    s: &[u8],
-    index: &[u16],
-    view: View,
+    unit: &UnitView<'_>,
     i: usize,
-) -> EffectResult
-    requires unit_read { UnitRead s.now index.now view }
-    requires i_lt_count { i < view.code.count }
-    requires entry_of { EntryOf (opcode_byte s.now index.now view i) pair }
-    ensures { (p : UnitRead s.now index.now view) → InstructionEffectAt (compiled_unit p.decoded) i result }
+) -> PartialVMResult<(u64, u64)>
+    requires i_lt_count { i < unit.now.view.code.count }
+    requires entry_of { EntryOf (opcode_byte unit.now i) pair }
+    ensures { InstructionEffectAt (compiled unit.now) i result }
 {
     let Effect(pops, pushes) = pair;
     if pops == LOOKED_UP {
-        return looked_up_effect(s, index, view, i);
+        return looked_up_effect(unit, i);
     }
-    EffectResult::Found(pops as u64, pushes as u64)
+    Ok((u64::from(pops), u64::from(pushes)))
 }

@@ -1,4 +1,3 @@
 -- The modules of this crate's proofs.
-pub mod Table
 pub mod Widths
 pub mod Instructions

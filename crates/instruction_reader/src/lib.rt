@@ -9,8 +9,7 @@ ghost use Rattle.definitions.specs.Reader.{instruction};
 ghost use Rattle.record_reader.specs.ReadTo.{read_to};
 ghost use Rattle.instruction_reader.specs.Widths.{WidthTable};
 
-use numbers::wide;
-use record_reader::ReadTo;
+use record_reader::{ReadError, byte_at, skip_bytes};
 use status::StatusCode;
 
 // How many bytes follow each opcode.
@@ -96,21 +95,18 @@ pub fn operand_widths() -> [u8; 71]
 }
 
 // An opcode and its operands.
-pub fn read_instruction(s: &[u8], at: usize, widths: &[u8]) -> ReadTo
+#[tactic(auto, using(crate::proofs::Instructions::decoding))]
+pub fn read_instruction(s: &[u8], at: usize, widths: &[u8]) -> Result<usize, ReadError>
     requires { WidthTable widths.now }
     ensures { (head : Head) → result ≡ read_to (instruction (commands_of head) s.now at) }
 {
-    if s.len() <= at {
-        return ReadTo::Refused(StatusCode::SHORT, s.len());
-    }
-    let opcode = wide(s[at]);
+    let opcode = byte_at(s, at)?;
     if 71 <= opcode {
-        return ReadTo::Refused(StatusCode::COMMAND, at);
+        return Err(ReadError {
+            status: StatusCode::COMMAND,
+            at: at,
+        });
     }
-    let operands = at + 1;
-    let width = wide(widths[opcode]);
-    if s.len() - operands < width {
-        return ReadTo::Refused(StatusCode::SHORT, s.len());
-    }
-    ReadTo::Next(operands + width)
+    let width = usize::from(widths[usize::from(opcode)]);
+    skip_bytes(s, at + 1, width)
 }

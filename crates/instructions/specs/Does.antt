@@ -3,26 +3,21 @@
 use Rattle.std.specs.Prelude.{◌≡◌, refl, List, [], ◌∷◌, ℕ, zero, suc, ◌+◌, ◌-◌, ◌≤◌, ◌<◌, eqb, length}
 use Rattle.std.proofs.Math.Decide.{ℕ_discrete}
 use Rattle.std.proofs.Common.{arith}
-use Rattle.definitions.specs.Result.{Result, ok, at}
+use Rattle.definitions.specs.Result.{ok, at}
 use Rattle.definitions.specs.SignatureToken.{U8, U64, U128, arguments, encode, encode_all}
 use Rattle.definitions.specs.Bytecode.{Bytecode}
-use Rattle.definitions.specs.CompiledUnit.{CompiledUnit, StructWith}
+use Rattle.definitions.specs.CompiledUnit.{CompiledUnit}
 use Rattle.definitions.specs.TypeSafety.{verify_instr, borrow_loc}
 use Rattle.record_views.specs.Records.{instruction_of, TypesIn}
 use Rattle.record_views.specs.declared.Instruction.{Instruction}
-use Rattle.unit.specs.declared.View.{View}
-use Rattle.unit.specs.Views.{UnitRead}
-use Rattle.unit_tables.specs.Tables.{unit_short}
 use Rattle.instruction_arms.specs.declared.Arm.{Arm}
 use Rattle.instruction_arms.specs.Arms.{opcodes, InArm}
 use Rattle.code_views.specs.Answers.{InstructionAt}
-use Rattle.step_views.specs.Structs.{StructWithIs, StructLooked}
-use Rattle.step_views.specs.declared.StructWithResult.{StructWithResult}
 use Rattle.signature_token.specs.TokenLaws.{is_u8, is_u64, is_u128}
 use Rattle.type_stack.specs.Stepping.{StepsTo}
 use Rattle.type_stack.specs.Pushing.{PushesTo}
 use Rattle.operand_steps.specs.Leaves.{CastsTo}
-use Rattle.type_stack.specs.declared.Stepped.{Stepped}
+use Rattle.type_stack.specs.Answers.{Stepped}
 
 -- the step of the instruction with this opcode and the operands of i
 abbrev pub StepOf : CompiledUnit → Instruction → List ℕ → ℕ → List ℕ → Stepped → ℕ → Type 0
@@ -114,9 +109,3 @@ third lo b = omega (arith, b.from, b.to)
 unfoldable pub no_types : (s : List ℕ) → TypesIn s (record { at = 0; count = 0 })
 unfolding arguments encode_all
 no_types s = record { types = []; are = record { counted = refl; small = omega arith; stands = record { rest = s; here = refl } } }
-
-unfoldable pub looked : {s : List ℕ} {x : Result StructWith} {q : StructWithResult} → StructWithIs s x q → StructLooked s q
-looked {x = x} k = record { result = x; is = k }
-
-pub looked_short : {s index : List ℕ} {view : View} → UnitRead s index view → {x : Result StructWith} {q : StructWithResult} → StructWithIs s x q → StructLooked s q × (length s ≤ 65535)
-looked_short u k = (looked k, omega (arith, unit_short u))

@@ -3,10 +3,8 @@
 #![tactic(auto)]
 
 ghost use Rattle.std.specs.Prelude.{◌≡◌, ◌+◌, ◌<◌};
-ghost use Rattle.definitions.specs.Reader.{compiled_unit};
-ghost use Rattle.locals.specs.Locals.{LocalPlaces};
 ghost use Rattle.type_stack.specs.Held.{Stacked};
-ghost use Rattle.unit.specs.Views.{UnitRead};
+ghost use Rattle.unit_tables.specs.Compiled.{compiled};
 ghost use Rattle.instructions.specs.Does.{Does, DoesAt, Between};
 
 use file_format::{
@@ -16,12 +14,12 @@ use file_format::{
 };
 use instruction_arms::Arm;
 use local_steps::{copy_loc, ld_const, move_loc, st_loc};
+use locals::Locals;
 use operand_steps::pop_leaf;
 use record_views::{Instruction, TypeList};
 use signature_token::{BOOL, U8, U64};
-use status::StatusCode;
-use type_stack::Stepped;
-use unit::View;
+use status::{PartialVMResult, StatusCode};
+use unit_tables::UnitView;
 
 // The commands of u8, u64 and u128, in this order.
 fn integer_type(k: u8) -> u8
@@ -35,48 +33,37 @@ fn integer_type(k: u8) -> u8
 fn borrow_loc_instr(
     area: &mut [u8],
     weight: usize,
-    s: &[u8],
-    index: &[u16],
-    view: View,
-    parameters: &[u16],
-    locals: &[u16],
+    locals: &Locals<'_>,
     instruction: Instruction,
-) -> Stepped
+) -> PartialVMResult<usize>
     requires stacked { Stacked area.old weight }
-    requires unit_read { UnitRead s.now index.now view }
-    requires local_places { LocalPlaces s.now index.now view parameters.now locals.now }
     requires between { Between 26 27 instruction }
-    ensures { (p : UnitRead s.now index.now view) → Does (compiled_unit p.decoded) instruction area.old weight area.new result }
+    ensures { Does (compiled locals.now.unit) instruction area.old weight area.new result }
 {
     let opcode = instruction.opcode;
     let idx = LocalIndex(instruction.local);
     let mutable = opcode == 26;
-    reference_steps::borrow_loc(
-        area, weight, s, index, view, parameters, locals, mutable, idx,
-    )
+    reference_steps::borrow_loc(area, weight, locals, mutable, idx)
 }
 
 // Call, CallGeneric.
 fn call_instr(
     area: &mut [u8],
     weight: usize,
-    s: &[u8],
-    index: &[u16],
-    view: View,
+    unit: &UnitView<'_>,
     instruction: Instruction,
-) -> Stepped
+) -> PartialVMResult<usize>
     requires stacked { Stacked area.old weight }
-    requires unit_read { UnitRead s.now index.now view }
     requires between { Between 17 18 instruction }
-    ensures { (p : UnitRead s.now index.now view) → Does (compiled_unit p.decoded) instruction area.old weight area.new result }
+    ensures { Does (compiled unit.now) instruction area.old weight area.new result }
 {
     let opcode = instruction.opcode;
     let x = instruction.operand;
     match opcode {
-        17 => call_steps::function_call(area, weight, s, index, view, FunctionHandleIndex(x)), // Call
+        17 => call_steps::function_call(area, weight, unit, FunctionHandleIndex(x)), // Call
         _ => { // CallGeneric
             let inst = FunctionInstantiationIndex(x);
-            call_steps::function_call_generic(area, weight, s, index, view, inst)
+            call_steps::function_call_generic(area, weight, unit, inst)
         }
     }
 }
@@ -85,42 +72,21 @@ fn call_instr(
 fn struct_instr(
     area: &mut [u8],
     weight: usize,
-    s: &[u8],
-    index: &[u16],
-    view: View,
+    unit: &UnitView<'_>,
     instruction: Instruction,
-) -> Stepped
+) -> PartialVMResult<usize>
     requires stacked { Stacked area.old weight }
-    requires unit_read { UnitRead s.now index.now view }
     requires between { Between 19 22 instruction }
-    ensures { (p : UnitRead s.now index.now view) → Does (compiled_unit p.decoded) instruction area.old weight area.new result }
+    ensures { Does (compiled unit.now) instruction area.old weight area.new result }
 {
     let opcode = instruction.opcode;
     let def = StructDefinitionIndex(instruction.operand);
     let inst = StructDefInstantiationIndex(instruction.operand);
     match opcode {
-        19 => struct_steps::pack( // Pack
-            area,
-            weight,
-            s,
-            step_views::plain_struct(s, index, view, def),
-        ),
-        20 => struct_steps::pack( // PackGeneric
-            area,
-            weight,
-            s,
-            step_views::generic_struct(s, index, view, inst),
-        ),
-        21 => struct_steps::unpack( // Unpack
-            area,
-            weight,
-            s,
-            step_views::plain_struct(s, index, view, def),
-        ),
-        _ => { // UnpackGeneric
-            let found = step_views::generic_struct(s, index, view, inst);
-            struct_steps::unpack(area, weight, s, found)
-        }
+        19 => struct_steps::pack(area, weight, unit, step_views::plain_struct(unit, def)?), // Pack
+        20 => struct_steps::pack(area, weight, unit, step_views::generic_struct(unit, inst)?), // PackGeneric
+        21 => struct_steps::unpack(area, weight, unit, step_views::plain_struct(unit, def)?), // Unpack
+        _ => struct_steps::unpack(area, weight, unit, step_views::generic_struct(unit, inst)?), // UnpackGeneric
     }
 }
 
@@ -128,25 +94,22 @@ fn struct_instr(
 fn field_instr(
     area: &mut [u8],
     weight: usize,
-    s: &[u8],
-    index: &[u16],
-    view: View,
+    unit: &UnitView<'_>,
     instruction: Instruction,
-) -> Stepped
+) -> PartialVMResult<usize>
     requires stacked { Stacked area.old weight }
-    requires unit_read { UnitRead s.now index.now view }
     requires between { Between 28 31 instruction }
-    ensures { (p : UnitRead s.now index.now view) → Does (compiled_unit p.decoded) instruction area.old weight area.new result }
+    ensures { Does (compiled unit.now) instruction area.old weight area.new result }
 {
     let opcode = instruction.opcode;
     let handle = FieldHandleIndex(instruction.operand);
     let inst = FieldInstantiationIndex(instruction.operand);
     let none = TypeList { at: 0, count: 0 };
     match opcode {
-        28 => field_steps::borrow_field(area, weight, s, index, view, true, handle, none), // MutBorrowField
-        29 => field_steps::borrow_field_generic(area, weight, s, index, view, true, inst), // MutBorrowFieldGeneric
-        30 => field_steps::borrow_field(area, weight, s, index, view, false, handle, none), // ImmBorrowField
-        _ => field_steps::borrow_field_generic(area, weight, s, index, view, false, inst), // ImmBorrowFieldGeneric
+        28 => field_steps::borrow_field(area, weight, unit, true, handle, none), // MutBorrowField
+        29 => field_steps::borrow_field_generic(area, weight, unit, true, inst), // MutBorrowFieldGeneric
+        30 => field_steps::borrow_field(area, weight, unit, false, handle, none), // ImmBorrowField
+        _ => field_steps::borrow_field_generic(area, weight, unit, false, inst), // ImmBorrowFieldGeneric
     }
 }
 
@@ -154,25 +117,22 @@ fn field_instr(
 fn global_instr(
     area: &mut [u8],
     weight: usize,
-    s: &[u8],
-    index: &[u16],
-    view: View,
+    unit: &UnitView<'_>,
     instruction: Instruction,
-) -> Stepped
+) -> PartialVMResult<usize>
     requires stacked { Stacked area.old weight }
-    requires unit_read { UnitRead s.now index.now view }
     requires between { Between 32 35 instruction }
-    ensures { (p : UnitRead s.now index.now view) → Does (compiled_unit p.decoded) instruction area.old weight area.new result }
+    ensures { Does (compiled unit.now) instruction area.old weight area.new result }
 {
     let opcode = instruction.opcode;
     let def = StructDefinitionIndex(instruction.operand);
     let inst = StructDefInstantiationIndex(instruction.operand);
     let none = TypeList { at: 0, count: 0 };
     match opcode {
-        32 => global_steps::borrow_global(area, weight, s, index, view, true, def, none), // MutBorrowGlobal
-        33 => global_steps::borrow_global_generic(area, weight, s, index, view, true, inst), // MutBorrowGlobalGeneric
-        34 => global_steps::borrow_global(area, weight, s, index, view, false, def, none), // ImmBorrowGlobal
-        _ => global_steps::borrow_global_generic(area, weight, s, index, view, false, inst), // ImmBorrowGlobalGeneric
+        32 => global_steps::borrow_global(area, weight, unit, true, def, none), // MutBorrowGlobal
+        33 => global_steps::borrow_global_generic(area, weight, unit, true, inst), // MutBorrowGlobalGeneric
+        34 => global_steps::borrow_global(area, weight, unit, false, def, none), // ImmBorrowGlobal
+        _ => global_steps::borrow_global_generic(area, weight, unit, false, inst), // ImmBorrowGlobalGeneric
     }
 }
 
@@ -180,44 +140,28 @@ fn global_instr(
 fn resource_instr(
     area: &mut [u8],
     weight: usize,
-    s: &[u8],
-    index: &[u16],
-    view: View,
+    unit: &UnitView<'_>,
     instruction: Instruction,
-) -> Stepped
+) -> PartialVMResult<usize>
     requires stacked { Stacked area.old weight }
-    requires unit_read { UnitRead s.now index.now view }
     requires between { Between 55 60 instruction }
-    ensures { (p : UnitRead s.now index.now view) → Does (compiled_unit p.decoded) instruction area.old weight area.new result }
+    ensures { Does (compiled unit.now) instruction area.old weight area.new result }
 {
     let opcode = instruction.opcode;
     let def = StructDefinitionIndex(instruction.operand);
     let inst = StructDefInstantiationIndex(instruction.operand);
     match opcode {
-        55 => { // Exists
-            let found = step_views::plain_struct(s, index, view, def);
-            resource_steps::exists(area, weight, s, index, view, found)
-        }
-        56 => { // ExistsGeneric
-            let found = step_views::generic_struct(s, index, view, inst);
-            resource_steps::exists(area, weight, s, index, view, found)
-        }
-        57 => { // MoveFrom
-            let found = step_views::plain_struct(s, index, view, def);
-            resource_steps::move_from(area, weight, s, index, view, found)
-        }
-        58 => { // MoveFromGeneric
-            let found = step_views::generic_struct(s, index, view, inst);
-            resource_steps::move_from(area, weight, s, index, view, found)
-        }
-        59 => { // MoveTo
-            let found = step_views::plain_struct(s, index, view, def);
-            resource_steps::move_to(area, weight, s, index, view, found)
-        }
-        _ => { // MoveToGeneric
-            let found = step_views::generic_struct(s, index, view, inst);
-            resource_steps::move_to(area, weight, s, index, view, found)
-        }
+        55 => resource_steps::exists(area, weight, unit, step_views::plain_struct(unit, def)?), // Exists
+        56 => resource_steps::exists(area, weight, unit, step_views::generic_struct(unit, inst)?), // ExistsGeneric
+        57 => resource_steps::move_from(area, weight, unit, step_views::plain_struct(unit, def)?), // MoveFrom
+        58 => resource_steps::move_from(
+            area,
+            weight,
+            unit,
+            step_views::generic_struct(unit, inst)?,
+        ), // MoveFromGeneric
+        59 => resource_steps::move_to(area, weight, unit, step_views::plain_struct(unit, def)?), // MoveTo
+        _ => resource_steps::move_to(area, weight, unit, step_views::generic_struct(unit, inst)?), // MoveToGeneric
     }
 }
 
@@ -225,28 +169,25 @@ fn resource_instr(
 fn vector_instr(
     area: &mut [u8],
     weight: usize,
-    s: &[u8],
-    index: &[u16],
-    view: View,
+    unit: &UnitView<'_>,
     instruction: Instruction,
-) -> Stepped
+) -> PartialVMResult<usize>
     requires stacked { Stacked area.old weight }
-    requires unit_read { UnitRead s.now index.now view }
     requires between { Between 63 70 instruction }
-    ensures { (p : UnitRead s.now index.now view) → Does (compiled_unit p.decoded) instruction area.old weight area.new result }
+    ensures { Does (compiled unit.now) instruction area.old weight area.new result }
 {
     let opcode = instruction.opcode;
     let idx = SignatureIndex(instruction.operand);
     let n = instruction.count;
     match opcode {
-        63 => vector_pack_steps::vec_pack(area, weight, s, index, view, idx, n), // VecPack
-        64 => vector_steps::vec_len(area, weight, s, index, view, idx), // VecLen
-        65 => vector_borrow_steps::borrow_vector_element(area, weight, s, index, view, idx, false), // VecImmBorrow
-        66 => vector_borrow_steps::borrow_vector_element(area, weight, s, index, view, idx, true), // VecMutBorrow
-        67 => vector_steps::vec_push_back(area, weight, s, index, view, idx), // VecPushBack
-        68 => vector_steps::vec_pop_back(area, weight, s, index, view, idx), // VecPopBack
-        69 => vector_pack_steps::vec_unpack(area, weight, s, index, view, idx, n), // VecUnpack
-        _ => vector_steps::vec_swap(area, weight, s, index, view, idx), // VecSwap
+        63 => vector_pack_steps::vec_pack(area, weight, unit, idx, n), // VecPack
+        64 => vector_steps::vec_len(area, weight, unit, idx), // VecLen
+        65 => vector_borrow_steps::borrow_vector_element(area, weight, unit, idx, false), // VecImmBorrow
+        66 => vector_borrow_steps::borrow_vector_element(area, weight, unit, idx, true), // VecMutBorrow
+        67 => vector_steps::vec_push_back(area, weight, unit, idx), // VecPushBack
+        68 => vector_steps::vec_pop_back(area, weight, unit, idx), // VecPopBack
+        69 => vector_pack_steps::vec_unpack(area, weight, unit, idx, n), // VecUnpack
+        _ => vector_steps::vec_swap(area, weight, unit, idx), // VecSwap
     }
 }
 
@@ -254,51 +195,46 @@ fn vector_instr(
 pub fn verify_instr(
     area: &mut [u8],
     weight: usize,
-    s: &[u8],
-    index: &[u16],
-    view: View,
-    parameters: &[u16],
-    locals: &[u16],
+    locals: &Locals<'_>,
     i: usize,
-) -> Stepped
+) -> PartialVMResult<usize>
     requires stacked { Stacked area.old weight }
-    requires unit_read { UnitRead s.now index.now view }
-    requires local_places { LocalPlaces s.now index.now view parameters.now locals.now }
-    requires i_lt_count { i < view.code.count }
-    ensures { (p : UnitRead s.now index.now view) → DoesAt (compiled_unit p.decoded) i area.old weight area.new result }
+    requires i_lt_count { i < locals.now.unit.view.code.count }
+    ensures { DoesAt (compiled locals.now.unit) i area.old weight area.new result }
 {
-    let it = code_views::instruction_at(s, index, view, i);
+    let unit = &locals.unit;
+    let it = code_views::instruction_at(unit, i);
     let opcode = it.opcode;
     let local = LocalIndex(it.local);
     match instruction_arms::arm_of(opcode) {
-        Arm::Pop => drop_steps::pop_step(area, weight, s, index, view),
-        Arm::Ret => list_steps::ret_step(area, weight, s, index, view),
+        Arm::Pop => drop_steps::pop_step(area, weight, unit),
+        Arm::Ret => list_steps::ret_step(area, weight, unit),
         Arm::BrBool => pop_leaf(area, weight, BOOL, StatusCode::BR_TYPE_MISMATCH_ERROR),
-        Arm::Branch => Stepped::Next(weight),
+        Arm::Branch => Ok(weight),
         Arm::LdInteger => type_pushes::push_leaf(area, weight, integer_type(opcode - 5)),
         Arm::Cast => operand_steps::cast(area, weight, integer_type(opcode - 8)),
-        Arm::LdConst => ld_const(area, weight, s, index, view, ConstantPoolIndex(it.operand)),
+        Arm::LdConst => ld_const(area, weight, unit, ConstantPoolIndex(it.operand)),
         Arm::LdBool => type_pushes::push_leaf(area, weight, BOOL),
-        Arm::CopyLoc => copy_loc(area, weight, s, index, view, parameters, locals, local),
-        Arm::MoveLoc => move_loc(area, weight, s, index, view, parameters, locals, local),
-        Arm::StLoc => st_loc(area, weight, s, index, view, parameters, locals, local),
-        Arm::Call => call_instr(area, weight, s, index, view, it),
-        Arm::Struct => struct_instr(area, weight, s, index, view, it),
-        Arm::ReadRef => reference_steps::read_ref(area, weight, s, index, view),
-        Arm::WriteRef => reference_steps::write_ref(area, weight, s, index, view),
+        Arm::CopyLoc => copy_loc(area, weight, locals, local),
+        Arm::MoveLoc => move_loc(area, weight, locals, local),
+        Arm::StLoc => st_loc(area, weight, locals, local),
+        Arm::Call => call_instr(area, weight, unit, it),
+        Arm::Struct => struct_instr(area, weight, unit, it),
+        Arm::ReadRef => reference_steps::read_ref(area, weight, unit),
+        Arm::WriteRef => reference_steps::write_ref(area, weight, unit),
         Arm::FreezeRef => operand_steps::freeze_ref(area, weight),
-        Arm::BorrowLoc => borrow_loc_instr(area, weight, s, index, view, parameters, locals, it),
-        Arm::BorrowField => field_instr(area, weight, s, index, view, it),
-        Arm::BorrowGlobal => global_instr(area, weight, s, index, view, it),
+        Arm::BorrowLoc => borrow_loc_instr(area, weight, locals, it),
+        Arm::BorrowField => field_instr(area, weight, unit, it),
+        Arm::BorrowGlobal => global_instr(area, weight, unit, it),
         Arm::Arithmetic => pair_steps::arithmetic(area, weight),
         Arm::Logical => pair_steps::logical(area, weight),
         Arm::Not => operand_steps::negation(area, weight),
-        Arm::Equality => drop_steps::equality(area, weight, s, index, view),
+        Arm::Equality => drop_steps::equality(area, weight, unit),
         Arm::Comparison => pair_steps::comparison(area, weight),
         Arm::Abort => pop_leaf(area, weight, U64, StatusCode::ABORT_TYPE_MISMATCH_ERROR),
-        Arm::Nop => Stepped::Next(weight),
-        Arm::Resource => resource_instr(area, weight, s, index, view, it),
+        Arm::Nop => Ok(weight),
+        Arm::Resource => resource_instr(area, weight, unit, it),
         Arm::Shift => pair_steps::shift(area, weight),
-        Arm::Vector => vector_instr(area, weight, s, index, view, it),
+        Arm::Vector => vector_instr(area, weight, unit, it),
     }
 }

@@ -2,31 +2,28 @@
 -- at its turn; and the size of all of them tells whether that is so. A list of types that stands in the unit can itself be the
 -- arguments, by the places of its types.
 use mathlib.Core.List.{List, [], ◌∷◌, reverse, Forall₂}
-use Rattle.std.specs.Prelude.{◌≡◌, ℕ, ◌≤◌, take}
+use Rattle.std.specs.Prelude.{◌≡◌, ℕ, ◌≤◌, Result as Answer, Ok, Err, IsErrAnd}
 use Rattle.std.proofs.Math.Path.{refl, ap, ap₂}
-use Rattle.std.proofs.Common.{sym, ◌∙◌, arith}
+use Rattle.std.proofs.Common.{sym, arith}
 use mathlib.Mathlib.Data.List.Forall2.{rel-reverse}
 use Rattle.status.specs.declared.StatusCode.{StatusCode}
 use Rattle.definitions.specs.Result.{Result, ok, err, ◌>>?◌}
 use Rattle.definitions.specs.SignatureToken.{SignatureToken, Signature, ◌∷ᵗ◌, arguments, encode_all, same}
 use Rattle.definitions.specs.Substitution.{instantiate, instantiate_all, instantiate_each}
 use Rattle.definitions.specs.Machine.{Step, ◌>>=◌, pop, push, look, check, pop_one, pop_each, push_one, push_each}
-use Rattle.definitions.specs.Places.{Standing}
 use Rattle.theorems.specs.Bytes.{list_of_arguments}
 use Rattle.theorems.specs.Lookups.{used}
-use Rattle.type_places.specs.Places.{PlacesAt}
+use Rattle.type_places.specs.Arguments.{Arguments}
+use Rattle.type_places.specs.Places.{PlacedList}
 use Rattle.record_views.specs.declared.TypeList.{TypeList}
 use Rattle.record_views.specs.Records.{TypesIn}
 use Rattle.record_views.specs.Reread.{types_at}
 use Rattle.substitution.specs.declared.Size.{Size}
-use Rattle.substitution.specs.declared.Size.TheVariants.{Bytes, Past}
-use Rattle.substitution.specs.Instantiate.{Arguments, filled_all}
+use Rattle.substitution.specs.Instantiate.{filled_all}
 use Rattle.substitution.specs.Size.{SizesAt, size_from}
 use Rattle.type_stack.specs.Stepping.{StepsTo}
-use Rattle.type_stack.specs.declared.Stepped.{Stepped}
+use Rattle.type_stack.specs.Answers.{Stepped, exit_is}
 use Rattle.list_steps.specs.declared.Form.TheVariants.{Instantiated}
-use Rattle.list_steps.specs.declared.Instantiates.{Instantiates}
-use Rattle.list_steps.specs.declared.Instantiates.TheVariants as answer
 use Rattle.list_steps.specs.Forms.{formed, PopsEach, PushesEach, InstantiatesEach, instantiates_of}
 
 -- ── each of a list ──
@@ -72,12 +69,12 @@ module _ (ts subst : Signature) {us : Signature} (e : instantiate_each ts subst 
   pub pushes_instantiated : push_each ok us ≡ push_each (λ t. instantiate t subst) ts
   pushes_instantiated = pushes_made (λ t. instantiate t subst) (made_of ts subst e)
 
-module _ {s : List ℕ} {list : TypeList} {args a : List ℕ} {w : ℕ} {r : Stepped} (p : TypesIn s list) (q : Arguments s args) {us : Signature} (e : instantiate_each p.types q.subst ≡ ok us) where
-  pub pops_fields : {y : StatusCode} → PopsEach Instantiated s list args y a w r → StepsTo (pop_each y ok (reverse us)) a w a r
+module _ {s : List ℕ} {list : TypeList} {args places a : List ℕ} {w : ℕ} {r : Stepped} (p : TypesIn s list) (q : Arguments args places) {us : Signature} (e : instantiate_each p.types q.subst ≡ ok us) where
+  pub pops_fields : {y : StatusCode} → PopsEach Instantiated s list args places y a w r → StepsTo (pop_each y ok (reverse us)) a w a r
   unfolding formed
   pops_fields {y} h = rw (pops_instantiated p.types q.subst e y) (h.steps p q)
 
-  pub pushes_fields : {b : List ℕ} → PushesEach s list args a w b r → StepsTo (push_each ok us) a w b r
+  pub pushes_fields : {b : List ℕ} → PushesEach s list args places a w b r → StepsTo (push_each ok us) a w b r
   pushes_fields h = rw (pushes_instantiated p.types q.subst e) (h.steps p q)
 
 -- ── a list in the unit ──
@@ -86,12 +83,9 @@ module _ {s : List ℕ} {list : TypeList} (q : TypesIn s list) where
   pub list_small : list.count ≤ 255
   list_small = omega (arith, q.are.small)
 
-  pub list_standing : {out : List ℕ} {e : ℕ} → PlacesAt s list.at list.count out e → Standing s (take list.count out) q.types
-  list_standing p = rw (list_of_arguments q.types) at (p.standing (types_at q))
-
-  -- the types of a list, where their places are found, as arguments
-  abbrev pub arguments_of : {out : List ℕ} {e : ℕ} → PlacesAt s list.at list.count out e → Arguments s (take list.count out)
-  arguments_of p = record { subst = q.types; standing = list_standing p }
+  -- the types of a list, by their places, as arguments
+  abbrev pub arguments_of : {bytes places : List ℕ} → PlacedList s list.at list.count bytes places → Arguments bytes places
+  arguments_of p = record { subst = q.types; standing = rw (list_of_arguments q.types, ← p.same) at (p.standing (types_at q)) }
 
 -- ── the test ──
 
@@ -106,15 +100,24 @@ each_all (t ∷ ts) subst = rw (each_all ts subst) (go (instantiate t subst) (in
     go (ok u) (err y) = refl
     go (err y) rs = refl
 
--- what the size of all tells
-abbrev pub told : Size → Instantiates
-told (Bytes next len) = answer.All
-told Past = answer.Past
+module _ {s : List ℕ} {list : TypeList} {args places : List ℕ} where
+  -- what the size of all tells
+  pub sizes_found : {z : Size} → SizesAt s list.at list.count args places (Ok z) → InstantiatesEach s list args places (Ok tt)
+  unfolding filled_all size_from ◌>>?◌
+  sizes_found {z} m = record { is = λ p q. go _ (instantiate_each p.types q.subst) (rw (each_all p.types q.subst) at (m.is (types_at p) q)) }
+    where
+      go : (end : ℕ) (r : Result Signature) → Ok z ≡ size_from 0 end ((r >>? λ us. ok (arguments us)) >>? λ us. ok (encode_all us)) → Ok tt ≡ instantiates_of r
+      go end (ok us) e = refl
+      go end (err y) e = absurd cc
 
-pub sizes_tell : {s : List ℕ} {list : TypeList} {args : List ℕ} {z : Size} → SizesAt s list.at list.count s args z → (v : Size) → z ≡ v → InstantiatesEach s list args (told v)
-unfolding filled_all size_from ◌>>?◌
-sizes_tell {s} {list} {args} m v e = record { is = λ p q. ap told (sym e ∙ m.is (types_at p) q) ∙ rw (each_all p.types q.subst) (go _ (instantiate_each p.types q.subst)) }
-  where
-    go : (end : ℕ) (r : Result Signature) → told (size_from 0 end ((r >>? λ us. ok (arguments us)) >>? λ us. ok (encode_all us))) ≡ instantiates_of r
-    go end (ok us) = refl
-    go end (err y) = refl
+  pub sizes_refused :
+      {r : Answer (Unit {0}) StatusCode} {v : StatusCode} → IsErrAnd r (λ y. y ≡ v) → SizesAt s list.at list.count args places (Err v) → InstantiatesEach s list args places r
+  unfolding filled_all size_from ◌>>?◌
+  sizes_refused {v = v} h m = rw (exit_is h) (record { is = λ p q. go _ (instantiate_each p.types q.subst) (rw (each_all p.types q.subst) at (m.is (types_at p) q)) })
+    where
+      go : (end : ℕ) (r : Result Signature) → Err v ≡ size_from 0 end ((r >>? λ us. ok (arguments us)) >>? λ us. ok (encode_all us)) → Err v ≡ instantiates_of r
+      go end (ok us) e = absurd cc
+      go end (err y) e = cc
+
+-- `instantiates_each`
+pub ruleset sizes = (sizes_found, sizes_refused)

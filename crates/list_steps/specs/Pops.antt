@@ -1,32 +1,27 @@
 -- The laws of the pops: how an operand compares with what is made of a type of a list, what that answers of the pop, and the loop, which
 -- goes from the last place to the first.
-use Rattle.std.specs.Prelude.{Bool, true, false, cond, List, [], ◌∷◌, ◌++◌, reverse, ◌≡◌, ℕ, zero, suc, ◌-◌, ◌≤◌, ◌<◌, length, take, get_or}
+use Rattle.std.specs.Prelude.{Bool, true, false, Result as Answer, Ok, Err, List, [], ◌∷◌, ◌++◌, reverse, ◌≡◌, ℕ, zero, suc, ◌-◌, ◌≤◌, ◌<◌, length, take, get_or}
 use Rattle.std.proofs.lemmas.List.{reverse-append}
 use Rattle.std.proofs.Math.Path.{refl}
-use Rattle.std.proofs.Common.{ap, sym, ◌∙◌}
+use Rattle.std.proofs.Common.{ap, ◌∙◌}
 use native.Mathlib.Omega.{arith}
 use Rattle.status.specs.declared.StatusCode.{StatusCode}
-use Rattle.status.specs.declared.StatusCode.TheVariants.{OUT_OF_TABLE}
 use Rattle.definitions.specs.Result.{Result, ok, err}
 use Rattle.definitions.specs.SignatureToken.{SignatureToken, Signature, same}
 use Rattle.definitions.specs.Machine.{◌>>=◌, look, check, pop_one, pop_each, run}
 use Rattle.definitions.specs.Places.{TypeAt, Standing, none, more}
 use Rattle.record_views.specs.declared.TypeList.{TypeList}
+use Rattle.signature_token.specs.declared.TypeRef.{TypeRef}
 use Rattle.signature_token.specs.Same.{SameAt, spanned}
-use Rattle.substitution_comparison.specs.declared.Comparison.{Comparison}
-use Rattle.substitution_comparison.specs.declared.Comparison.TheVariants.{Same, Differs, Past}
-use Rattle.substitution.specs.Instantiate.{Arguments}
+use Rattle.type_places.specs.Arguments.{Arguments, IsPlaced}
 use Rattle.substitution_comparison.specs.Compare.{ComparedAt, compared}
-use Rattle.substitution.specs.Past.{instantiate_past}
 use Rattle.type_stack.specs.Held.{Stacked, Holds}
 use Rattle.type_stack.specs.Tops.{TopOf}
 use Rattle.type_stack.specs.Stepping.{StepsTo, done_here, look_then, look_bad, check_last, check_last_bad, pop_then, and_stacked}
 use Rattle.type_stack.specs.Leading.{Leads, leads_here, leads_on, leads_then, leads_done}
 use Rattle.type_stack.specs.Listed.{pop_each_law, pop_each_bad}
-use Rattle.type_stack.specs.declared.Stepped.{Stepped}
-use Rattle.type_stack.specs.declared.Stepped.TheVariants.{Next, Refused}
-use Rattle.type_stack.specs.declared.Top.{Top}
-use Rattle.type_stack.specs.declared.Top.TheVariants.{Entry}
+use Rattle.type_stack.specs.Answers.{Stepped}
+use Rattle.type_stack.specs.declared.Entry.{Entry}
 use Rattle.operand_steps.specs.Operands.{span}
 use Rattle.list_steps.specs.declared.Form.{Form}
 use Rattle.list_steps.specs.declared.Form.TheVariants.{Written, Instantiated}
@@ -34,51 +29,38 @@ use Rattle.list_steps.specs.Forms.{formed, FormComparedAt, PopsEach}
 
 -- ── a comparison ──
 
-module _ {form : Form} {a : List ℕ} {x len : ℕ} {s : List ℕ} {at : ℕ} {args : List ℕ} where
-  pub instantiated_compared : {r : Comparison} → form ≡ Instantiated → ComparedAt a x s at s args r → FormComparedAt form a x len s at args r
+module _ {form : Form} {a : List ℕ} {x len : ℕ} {s : List ℕ} {at : ℕ} {args slots : List ℕ} where
+  pub instantiated_compared : {r : Answer Bool StatusCode} → form ≡ Instantiated → ComparedAt a x s at args slots r → FormComparedAt form a x len s at args slots r
   unfolding formed
   instantiated_compared e k = rw e (record { is = λ p. k.is (spanned p) })
 
-  module _ {b : Bool} (e : form ≡ Written) (k : SameAt a x len s at b) where
-    pub written_same : b ≡ true → FormComparedAt form a x len s at args Same
-    unfolding formed compared
-    written_same i = rw e (record { is = λ p q l. rw (sym (k p q) ∙ i) })
-
-    pub written_differs : b ≡ false → FormComparedAt form a x len s at args Differs
-    unfolding formed compared
-    written_differs i = rw e (record { is = λ p q l. rw (sym (k p q) ∙ i) })
+  pub written_compared : {b : Bool} → form ≡ Written → SameAt a x len s at b → FormComparedAt form a x len s at args slots (Ok b)
+  unfolding formed compared
+  written_compared e k = rw e (record { is = λ p q l. ap Ok (k p q) })
 
 -- ── one pop ──
 
 -- what a pop answers whose operand compares so, where w is what is below it
-abbrev pub answered : StatusCode → ℕ → Comparison → Stepped
-answered status w Same = Next w
-answered status w Differs = Refused status
-answered status w Past = Refused OUT_OF_TABLE
+abbrev pub answered : StatusCode → ℕ → Answer Bool StatusCode → Stepped
+answered status w (Ok true) = Ok w
+answered status w (Ok false) = Err status
+answered status w (Err why) = Err why
 
-compared_steps :
-    (t : SignatureToken) (g : Result SignatureToken) (y : StatusCode) {a : List ℕ} {w : ℕ} → ((z : StatusCode) → g ≡ err z → z ≡ OUT_OF_TABLE) →
-    StepsTo (look g >>= (λ u. check (same t u) y)) a w a (answered y w (compared t g))
+compared_steps : (t : SignatureToken) (g : Result SignatureToken) (y : StatusCode) {a : List ℕ} {w : ℕ} → StepsTo (look g >>= (λ u. check (same t u) y)) a w a (answered y w (compared t g))
 unfolding compared
-compared_steps t (ok u) y {a} {w} h = look_then _ refl (go (same t u))
+compared_steps t (ok u) y {a} {w} = look_then _ refl (go (same t u))
   where
-    go : (b : Bool) → StepsTo (check b y) a w a (answered y w (cond b Same Differs))
+    go : (b : Bool) → StepsTo (check b y) a w a (answered y w (Ok b))
     go true = check_last y refl
     go false = check_last_bad refl
-compared_steps t (err z) y h = rw (← h z refl) (look_bad _ refl)
+compared_steps t (err z) y = look_bad _ refl
 
-formed_past : (form : Form) (subst : Signature) (t : SignatureToken) (z : StatusCode) → formed form subst t ≡ err z → z ≡ OUT_OF_TABLE
-unfolding formed
-formed_past Written subst t z e = let n : ◌≡◌ {A = ℕ} 0 1 = cc in absurd (omega arith)
-formed_past Instantiated subst t z e = instantiate_past t subst e
-
-module _ {a : List ℕ} {w : ℕ} {q : Top} {x l : ℕ} where
+module _ {a : List ℕ} {w : ℕ} {x : Entry} where
   pub pop_compared :
-      TopOf a w q → q ≡ Entry x l → {form : Form} {s : List ℕ} {at : ℕ} {args : List ℕ} {r : Comparison} → FormComparedAt form a x l s at args r →
-      (y : StatusCode) (v : Comparison) → r ≡ v → (p : TypeAt s at) (e : Arguments s args) → StepsTo (pop_one y (formed form e.subst) p.type) a w a (answered y x v)
+      TopOf a w (Ok x) → {form : Form} {s : List ℕ} {at : ℕ} {args slots : List ℕ} {v : Answer Bool StatusCode} → FormComparedAt form a x.start x.len s at args slots v →
+      (y : StatusCode) (p : TypeAt s at) (e : Arguments args slots) → StepsTo (pop_one y (formed form e.subst) p.type) a w a (answered y x.start v)
   unfolding pop_one
-  pop_compared k i {form} m y v j p e =
-      pop_then k i (λ t h. rw (sym j ∙ m.is (span h) p e) (compared_steps t (formed form e.subst p.type) y (formed_past form e.subst p.type)))
+  pop_compared k {form} m y p e = pop_then k (λ t h. rw (m.is (span h) p e) (compared_steps t (formed form e.subst p.type) y))
 
 -- ── the loop ──
 
@@ -97,23 +79,23 @@ last zero l (more {t = t} h w) = record { here = record { type = t; stands = h }
 last (suc j) l (more {t = t} h w) = let k = last j (omega arith) w in record { here = k.here; is = ap (λ (us : Signature). t ∷ us) k.is }
 
 -- of the types at the places all but the first i are popped
-pub record Popping (form : Form) (s places args : List ℕ) (y : StatusCode) (a : List ℕ) (w v i : ℕ) : Type 0 where
+pub record Popping (form : Form) (s places args slots : List ℕ) (y : StatusCode) (a : List ℕ) (w v i : ℕ) : Type 0 where
   pub under : Stacked a v
   pub most : i ≤ length places
   pub leads :
-      (p : Arguments s places) (q : Arguments s args) →
+      (p : Arguments s places) (q : Arguments args slots) →
       Leads (Holds a w) (run (length a) (pop_each y (formed form q.subst) (reverse p.subst))) (Holds a v) (run (length a) (pop_each y (formed form q.subst) (reverse (take i p.subst))))
 
 -- the types at the places are popped, the last first
-abbrev pub PopsPlaces : Form → List ℕ → List ℕ → List ℕ → StatusCode → List ℕ → ℕ → Stepped → Type 0
-PopsPlaces form s places args y a w r =
-    (p : Arguments s places) (q : Arguments s args) → StepsTo (pop_each y (formed form q.subst) (reverse p.subst)) a w a r
+abbrev pub PopsPlaces : Form → List ℕ → List ℕ → List ℕ → List ℕ → StatusCode → List ℕ → ℕ → Stepped → Type 0
+PopsPlaces form s places args slots y a w r =
+    (p : Arguments s places) (q : Arguments args slots) → StepsTo (pop_each y (formed form q.subst) (reverse p.subst)) a w a r
 
-pub popping_start : {form : Form} {s places args : List ℕ} {y : StatusCode} {a : List ℕ} {w : ℕ} → Stacked a w → Popping form s places args y a w w (length places)
+pub popping_start : {form : Form} {s places args slots : List ℕ} {y : StatusCode} {a : List ℕ} {w : ℕ} → Stacked a w → Popping form s places args slots y a w w (length places)
 popping_start k = record { under = k; most = omega arith; leads = λ p q. rw (standing_all p.standing) leads_here }
 
-module _ {form : Form} {s places args : List ℕ} {y : StatusCode} {a : List ℕ} {w v i : ℕ} (h : Popping form s places args y a w v i) where
-  pub popping_end : i ≤ 0 → PopsPlaces form s places args y a w (Next v)
+module _ {form : Form} {s places args slots : List ℕ} {y : StatusCode} {a : List ℕ} {w v i : ℕ} (h : Popping form s places args slots y a w v i) where
+  pub popping_end : i ≤ 0 → PopsPlaces form s places args slots y a w (Ok v)
   unfolding pop_each
   popping_end k p q = let e : i ≡ 0 = omega arith in leads_done refl (rw e at (h.leads p q))
 
@@ -122,7 +104,7 @@ module _ {form : Form} {s places args : List ℕ} {y : StatusCode} {a : List ℕ
     turn p = last (i - 1) (omega (arith, h.most)) p.standing
 
     popping_at :
-        (p : Arguments s places) (q : Arguments s args) →
+        (p : Arguments s places) (q : Arguments args slots) →
         Leads (Holds a w) (run (length a) (pop_each y (formed form q.subst) (reverse p.subst))) (Holds a v) (run (length a) (pop_each y (formed form q.subst) ((turn p).here.type ∷ reverse (take (i - 1) p.subst))))
     popping_at p q =
         let e : i ≡ suc (i - 1) = omega arith in
@@ -130,31 +112,26 @@ module _ {form : Form} {s places args : List ℕ} {y : StatusCode} {a : List ℕ
         ap (λ (n : ℕ). reverse (take n p.subst)) e ∙ ap reverse (turn p).is ∙ reverse-append (take (i - 1) p.subst) ((turn p).here.type ∷ []) in
         rw (← z) (h.leads p q)
 
-    module _ {x : ℕ} (e : x ≡ get_or places (i - 1) 0) where
-      -- the type whose turn it is
-      pub popping_type : Arguments s places → TypeAt s x
-      popping_type p = rw e (turn p).here
+    module _ {t : TypeRef} (e : IsPlaced s places (i - 1) t) {r : Stepped} (o : (p : TypeAt t.bytes.now t.at) (q : Arguments args slots) → StepsTo (pop_one y (formed form q.subst) p.type) a v a r) where
+      popped : (p : Arguments s places) (q : Arguments args slots) → StepsTo (pop_one y (formed form q.subst) (turn p).here.type) a v a r
+      popped p q = (rw (e.bytes, e.place) at o) (turn p).here q
 
-      module _ {r : Stepped} (o : (p : TypeAt s x) (q : Arguments s args) → StepsTo (pop_one y (formed form q.subst) p.type) a v a r) where
-        popped : (p : Arguments s places) (q : Arguments s args) → StepsTo (pop_one y (formed form q.subst) (turn p).here.type) a v a r
-        popped p q = (rw e at o) (turn p).here q
+      pub popping_next : {z : ℕ} → Arguments s places → Arguments args slots → r ≡ Ok z → Popping form s places args slots y a w z (i - 1)
+      popping_next p q j = record {
+        under = and_stacked (popped p q) h.under j refl;
+        most = omega (arith, h.most);
+        leads = λ p q. leads_on (popping_at p q) (pop_each_law y _ _ _ (popped p q) refl j);
+      }
 
-        pub popping_next : {z : ℕ} → Arguments s places → Arguments s args → r ≡ Next z → Popping form s places args y a w z (i - 1)
-        popping_next p q j = record {
-          under = and_stacked (popped p q) h.under j refl;
-          most = omega (arith, h.most);
-          leads = λ p q. leads_on (popping_at p q) (pop_each_law y _ _ _ (popped p q) refl j);
-        }
-
-        pub popping_bad : {z : StatusCode} → r ≡ Refused z → PopsPlaces form s places args y a w (Refused z)
-        popping_bad j p q = leads_then (popping_at p q) (pop_each_bad y _ _ _ (popped p q) j)
+      pub popping_bad : {z : StatusCode} → r ≡ Err z → PopsPlaces form s places args slots y a w (Err z)
+      popping_bad j p q = leads_then (popping_at p q) (pop_each_bad y _ _ _ (popped p q) j)
 
 -- a list of no types
 pub pops_none :
-    {form : Form} {s args a : List ℕ} {list : TypeList} {y : StatusCode} {w : ℕ} → list.count ≡ 0 → PopsEach form s list args y a w (Next w)
+    {form : Form} {s args slots a : List ℕ} {list : TypeList} {y : StatusCode} {w : ℕ} → list.count ≡ 0 → PopsEach form s list args slots y a w (Ok w)
 unfolding pop_each
 pops_none {form} {a = a} {y = y} {w = w} e = record { steps = λ p q. go p.types (formed form q.subst) (omega (arith, p.are.counted)) }
   where
-    go : (ts : Signature) (f : SignatureToken → Result SignatureToken) → length ts ≡ 0 → StepsTo (pop_each y f (reverse ts)) a w a (Next w)
+    go : (ts : Signature) (f : SignatureToken → Result SignatureToken) → length ts ≡ 0 → StepsTo (pop_each y f (reverse ts)) a w a (Ok w)
     go [] f z = done_here
     go (t ∷ ts) f z = absurd (omega arith)

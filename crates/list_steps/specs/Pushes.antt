@@ -1,12 +1,12 @@
 -- The laws of the pushes, which walk the list twice: first every push is weighed, and only where all of them fit are they written.
 use mathlib.Core.List.{List, [], ◌∷◌}
-use Rattle.std.specs.Prelude.{◌≡◌, ℕ, ◌+◌, ◌-◌, ◌≤◌, ◌<◌, take, drop}
+use Rattle.std.specs.Prelude.{◌≡◌, Ok, Err, ℕ, ◌+◌, ◌-◌, ◌≤◌, ◌<◌, take, drop}
 use Rattle.std.proofs.Math.Path.{refl}
 use Rattle.std.proofs.Common.{ap, sym, ◌∙◌, arith, length-drop, length-take-le}
 use Rattle.std.proofs.Math.ListN.{length}
 use borrow.Rule.Slice.PartMut.{put_mid}
 use Rattle.status.specs.declared.StatusCode.{StatusCode}
-use Rattle.status.specs.declared.StatusCode.TheVariants.{OUT_OF_TABLE, NO_ROOM}
+use Rattle.status.specs.declared.StatusCode.TheVariants.{NO_ROOM}
 use Rattle.definitions.specs.Result.{Result, ok, err, ◌>>?◌}
 use Rattle.definitions.specs.SignatureToken.{SignatureToken, Signature, arguments, encode, encode_all, le16}
 use Rattle.definitions.specs.Substitution.{instantiate}
@@ -16,20 +16,18 @@ use Rattle.theorems.specs.AtLaws.{at_front, at_back}
 use Rattle.record_views.specs.declared.TypeList.{TypeList}
 use Rattle.record_views.specs.Records.{TypesIn}
 use Rattle.substitution.specs.declared.Size.{Size}
-use Rattle.substitution.specs.declared.Size.TheVariants.{Bytes, Past}
-use Rattle.substitution.specs.Instantiate.{Arguments, filled, instantiated}
+use Rattle.type_places.specs.Arguments.{Arguments}
+use Rattle.substitution.specs.Instantiate.{filled, instantiated, not_instantiated}
 use Rattle.substitution.specs.Filling.{Room}
-use Rattle.substitution.specs.Size.{SizeAt, capped, past, was}
+use Rattle.substitution.specs.Size.{SizeAt, capped, not_sized, was}
 use Rattle.substitution_writer.specs.declared.Reached.{Reached}
 use Rattle.substitution_writer.specs.Write.{WroteAt}
-use Rattle.substitution.specs.Past.{not_instantiated}
 use Rattle.type_stack.specs.Spliced.{spliced, length_spliced, lent}
 use Rattle.type_stack.specs.Held.{Holds, Stacked, entered, length_entry}
 use Rattle.type_stack.specs.Pushing.{sealed, push_entered}
 use Rattle.type_stack.specs.Leading.{Leads, Weighs, Stuck, leads_here, leads_on, leads_done, stuck_on, stuck_refused}
 use Rattle.type_stack.specs.Listed.{write_each, weigh_each, stuck_each, stuck_each_bad}
-use Rattle.type_stack.specs.declared.Stepped.{Stepped}
-use Rattle.type_stack.specs.declared.Stepped.TheVariants.{Next, Refused}
+use Rattle.type_stack.specs.Answers.{Stepped}
 use Rattle.list_steps.specs.Forms.{PushesEach}
 
 -- ── the words ──
@@ -40,16 +38,16 @@ pub data Fit (f : SignatureToken → Result SignatureToken) (room : ℕ) : ℕ �
   more : {w : ℕ} {t u : SignatureToken} {ts : Signature} → f t ≡ ok u → w + (length (encode u) + 2) ≤ room → Fit f room (w + (length (encode u) + 2)) ts → Fit f room w (t ∷ ts)
 
 -- the types of the list, their parameters replaced, fit
-pub record AllFit (room w : ℕ) (s : List ℕ) (list : TypeList) (args : List ℕ) : Type 0 where
-  pub is : (p : TypesIn s list) (q : Arguments s args) → Fit (λ t. instantiate t q.subst) room w p.types
+pub record AllFit (room w : ℕ) (s : List ℕ) (list : TypeList) (args places : List ℕ) : Type 0 where
+  pub is : (p : TypesIn s list) (q : Arguments args places) → Fit (λ t. instantiate t q.subst) room w p.types
 
 -- what weighing the pushes of ts tells: they fit, or they are refused
 abbrev pub Weighed : ℕ → ℕ → (SignatureToken → Result SignatureToken) → Signature → Stepped → Type 0
-Weighed room w f ts (Next v) = Fit f room w ts
-Weighed room w f ts (Refused y) = Stuck room w (push_each f ts) y
+Weighed room w f ts (Ok v) = Fit f room w ts
+Weighed room w f ts (Err y) = Stuck room w (push_each f ts) y
 
-pub record WeighsEach (room w : ℕ) (s : List ℕ) (list : TypeList) (args : List ℕ) (r : Stepped) : Type 0 where
-  pub is : (p : TypesIn s list) (q : Arguments s args) → Weighed room w (λ t. instantiate t q.subst) p.types r
+pub record WeighsEach (room w : ℕ) (s : List ℕ) (list : TypeList) (args places : List ℕ) (r : Stepped) : Type 0 where
+  pub is : (p : TypesIn s list) (q : Arguments args places) → Weighed room w (λ t. instantiate t q.subst) p.types r
 
 -- ── a walk along the list ──
 
@@ -106,15 +104,15 @@ record Sized (t : SignatureToken) (subst : Signature) (p next len : ℕ) : Type 
   ends : next ≡ p + length (encode t)
   long : len ≡ capped (length (encode type))
 
-module _ {s : List ℕ} {p : ℕ} {args : List ℕ} {z : Size} (m : SizeAt s p s args z) (k : TypeAt s p) (q : Arguments s args) where
-  size_made : {next len : ℕ} → z ≡ Bytes next len → Sized k.type q.subst p next len
-  size_made e =
-      let x = was (rw e at m) k q in
+module _ {s : List ℕ} {p : ℕ} {args places : List ℕ} (k : TypeAt s p) (q : Arguments args places) where
+  size_made : {z : Size} → SizeAt s p args places (Ok z) → Sized k.type q.subst p z.next z.len
+  size_made m =
+      let x = was m k q in
       let u = instantiated k.type q.subst x.here in
       record { type = u.type; here = u.here; bytes = x.here ∙ ap ok u.is; ends = x.ends; long = omega (arith, x.long, ap length u.is) }
 
-  size_past : z ≡ Past → instantiate k.type q.subst ≡ err OUT_OF_TABLE
-  size_past e = not_instantiated k.type q.subst (past 0 (p + length (encode k.type)) (filled k.type q.subst) (sym e ∙ m.is k q)).here
+  size_refused : {status : StatusCode} → SizeAt s p args places (Err status) → instantiate k.type q.subst ≡ err status
+  size_refused m = not_instantiated k.type q.subst (not_sized 0 (p + length (encode k.type)) (filled k.type q.subst) (m.is k q))
 
 -- ── weighing ──
 
@@ -124,56 +122,55 @@ pub record Left (room w : ℕ) (f : SignatureToken → Result SignatureToken) (t
   pub fit : Fit f room v others → Fit f room w ts
 
 -- of the list the first i are weighed, and the others stand at p
-pub record Weighing (room w : ℕ) (s : List ℕ) (list : TypeList) (args : List ℕ) (v p i : ℕ) : Type 0 where
+pub record Weighing (room w : ℕ) (s : List ℕ) (list : TypeList) (args places : List ℕ) (v p i : ℕ) : Type 0 where
   pub low : v ≤ room
-  pub is : (k : TypesIn s list) (q : Arguments s args) → Passed s list.count p i (Left room w (λ t. instantiate t q.subst) k.types v)
+  pub is : (k : TypesIn s list) (q : Arguments args places) → Passed s list.count p i (Left room w (λ t. instantiate t q.subst) k.types v)
 
-module _ {room w : ℕ} {s : List ℕ} {list : TypeList} {args : List ℕ} where
-  pub weighing_start : w ≤ room → Weighing room w s list args w list.at 0
+module _ {room w : ℕ} {s : List ℕ} {list : TypeList} {args places : List ℕ} where
+  pub weighing_start : w ≤ room → Weighing room w s list args places w list.at 0
   weighing_start l = record { low = l; is = λ k q. passed_start k (record { leads = leads_here; fit = λ z. z }) }
 
-  module _ {v p i : ℕ} (h : Weighing room w s list args v p i) where
-    pub weighing_done : list.count ≤ i → WeighsEach room w s list args (Next v)
+  module _ {v p i : ℕ} (h : Weighing room w s list args places v p i) where
+    pub weighing_done : list.count ≤ i → WeighsEach room w s list args places (Ok v)
     weighing_done l = record { is = λ k q. (passed_done (h.is k q) l).fit none }
 
     module _ (l : i < list.count) where
       -- what a turn needs
-      pub weighing_type : TypesIn s list → Arguments s args → TypeAt s p
+      pub weighing_type : TypesIn s list → Arguments args places → TypeAt s p
       weighing_type k q = (turn (h.is k q) l).first
 
-      module _ {z : Size} (m : SizeAt s p s args z) where
-        pub weighing_past : z ≡ Past → WeighsEach room w s list args (Refused OUT_OF_TABLE)
-        weighing_past e = record {
+      pub weighing_refused : {status : StatusCode} → SizeAt s p args places (Err status) → WeighsEach room w s list args places (Err status)
+      weighing_refused m = record {
+        is = λ k q.
+            let t = turn (h.is k q) l in
+            stuck_on t.state.leads (stuck_each_bad _ _ _ (size_refused t.first q m));
+      }
+
+      module _ {z : Size} (m : SizeAt s p args places (Ok z)) where
+        pub weighing_small : TypesIn s list → Arguments args places → z.len ≤ 65536
+        weighing_small k q = omega (arith, (size_made (turn (h.is k q) l).first q m).long)
+
+        pub weighing_full : room - v < z.len + 2 → WeighsEach room w s list args places (Err NO_ROOM)
+        weighing_full g = record {
           is = λ k q.
               let t = turn (h.is k q) l in
-              stuck_on t.state.leads (stuck_each_bad _ _ _ (size_past m t.first q e));
+              let u = size_made t.first q m in
+              stuck_on t.state.leads (stuck_each _ _ _ u.here (omega (arith, u.long, h.low)));
         }
 
-        module _ {next len : ℕ} (e : z ≡ Bytes next len) where
-          pub weighing_small : TypesIn s list → Arguments s args → len ≤ 65536
-          weighing_small k q = omega (arith, (size_made m (turn (h.is k q) l).first q e).long)
-
-          pub weighing_full : room - v < len + 2 → WeighsEach room w s list args (Refused NO_ROOM)
-          weighing_full g = record {
-            is = λ k q.
-                let t = turn (h.is k q) l in
-                let u = size_made m t.first q e in
-                stuck_on t.state.leads (stuck_each _ _ _ u.here (omega (arith, u.long, h.low)));
-          }
-
-          pub weighing_next : room ≤ 65535 → len + 2 ≤ room - v → Weighing room w s list args (v + (len + 2)) next (i + 1)
-          weighing_next r g = record {
-            low = omega (arith, h.low);
-            is = λ k q.
-                let t = turn (h.is k q) l in
-                let u = size_made m t.first q e in
-                let x : len ≡ length (encode u.type) = omega (arith, u.long) in
-                let y : v + (length (encode u.type) + 2) ≤ room = omega (arith, h.low) in
-                turn_next t u.ends (record {
-                  leads = leads_on t.state.leads (rw x (weigh_each _ _ _ u.here y));
-                  fit = λ c. t.state.fit (more u.here y (rw x at c));
-                });
-          }
+        pub weighing_next : room ≤ 65535 → z.len + 2 ≤ room - v → Weighing room w s list args places (v + (z.len + 2)) z.next (i + 1)
+        weighing_next r g = record {
+          low = omega (arith, h.low);
+          is = λ k q.
+              let t = turn (h.is k q) l in
+              let u = size_made t.first q m in
+              let x : z.len ≡ length (encode u.type) = omega (arith, u.long) in
+              let y : v + (length (encode u.type) + 2) ≤ room = omega (arith, h.low) in
+              turn_next t u.ends (record {
+                leads = leads_on t.state.leads (rw x (weigh_each _ _ _ u.here y));
+                fit = λ c. t.state.fit (more u.here y (rw x at c));
+              });
+        }
 
 -- ── writing ──
 
@@ -183,10 +180,10 @@ pub record Written (a : List ℕ) (w : ℕ) (f : SignatureToken → Result Signa
   pub fit : Fit f (length a) v others
 
 -- of the list the first i are written, and the others stand at p
-pub record Writing (a : List ℕ) (w : ℕ) (s : List ℕ) (list : TypeList) (args : List ℕ) (b : List ℕ) (v p i : ℕ) : Type 0 where
+pub record Writing (a : List ℕ) (w : ℕ) (s : List ℕ) (list : TypeList) (args places : List ℕ) (b : List ℕ) (v p i : ℕ) : Type 0 where
   pub same : length b ≡ length a
   pub low : v ≤ length b
-  pub is : (k : TypesIn s list) (q : Arguments s args) → Passed s list.count p i (Written a w (λ t. instantiate t q.subst) k.types b v)
+  pub is : (k : TypesIn s list) (q : Arguments args places) → Passed s list.count p i (Written a w (λ t. instantiate t q.subst) k.types b v)
 
 -- the first of those that fit: what is made of it, for which there is room, and the others
 record FirstFits (f : SignatureToken → Result SignatureToken) (room w : ℕ) (t : SignatureToken) (ts : Signature) : Type 0 where
@@ -202,33 +199,33 @@ filled_made : (t : SignatureToken) (subst : Signature) {u : SignatureToken} → 
 unfolding filled ◌>>?◌
 filled_made t subst e = rw e
 
-module _ {a : List ℕ} {w : ℕ} {s : List ℕ} {list : TypeList} {args : List ℕ} where
-  pub writing_start : Stacked a w → AllFit (length a) w s list args → Writing a w s list args a w list.at 0
+module _ {a : List ℕ} {w : ℕ} {s : List ℕ} {list : TypeList} {args places : List ℕ} where
+  pub writing_start : Stacked a w → AllFit (length a) w s list args places → Writing a w s list args places a w list.at 0
   writing_start k h = record { same = refl; low = k.holds.fits; is = λ k q. passed_start k (record { leads = leads_here; fit = h.is k q }) }
 
-  module _ {b : List ℕ} {v p i : ℕ} (h : Writing a w s list args b v p i) where
-    pub writing_done : list.count ≤ i → PushesEach s list args a w b (Next v)
+  module _ {b : List ℕ} {v p i : ℕ} (h : Writing a w s list args places b v p i) where
+    pub writing_done : list.count ≤ i → PushesEach s list args places a w b (Ok v)
     unfolding push_each
     writing_done l = record { steps = λ k q. leads_done refl (passed_done (h.is k q) l).leads }
 
     module _ (l : i < list.count) (small : length a ≤ 65535) where
-      module _ (k : TypesIn s list) (q : Arguments s args) where
+      module _ (k : TypesIn s list) (q : Arguments args places) where
         made : FirstFits (λ t. instantiate t q.subst) (length a) v (turn (h.is k q) l).first.type (turn (h.is k q) l).rest
         made = first_fits (turn (h.is k q) l).state.fit
 
-        abbrev room : Room s p s args 0 (length (take (length b - v) (drop v b)))
+        abbrev room : Room s p args places 0 (length (take (length b - v) (drop v b)))
         room = record {
           filling = record { from = (turn (h.is k q) l).first; list = q; bytes = encode made.type; is = filled_made (turn (h.is k q) l).first.type q.subst made.here };
           fits = omega (arith, made.fits, h.same, length-take-le (length b - v) (drop v b) (omega (arith, length-drop v b)));
         }
 
         -- what the writer needs
-        pub writing_room : Room s p s args 0 (length (take (length b - v) (drop v b)))
+        pub writing_room : Room s p args places 0 (length (take (length b - v) (drop v b)))
         writing_room = room
 
       -- the writer was lent the free end
-      module _ {d : List ℕ} {r : Reached} (o : WroteAt s p s args (take (length b - v) (drop v b)) d r) where
-        module _ (k : TypesIn s list) (q : Arguments s args) where
+      module _ {d : List ℕ} {r : Reached} (o : WroteAt s p args places (take (length b - v) (drop v b)) d r) where
+        module _ (k : TypesIn s list) (q : Arguments args places) where
           exact : r.end ≡ length (encode (made k q).type)
           exact = o.reached (room k q).filling
 
@@ -240,8 +237,8 @@ module _ {a : List ℕ} {w : ℕ} {s : List ℕ} {list : TypeList} {args : List 
           written j = sealed b v (encode (made k q).type) exact writing_fits.0 (lent b (encode (made k q).type) v (o.is (room k q))) j
 
         pub writing_next :
-            TypesIn s list → Arguments s args → {c : List ℕ} {x : ℕ} → x ≡ v + (r.end + 2) →
-            c ≡ spliced (put_mid v (length b - v) b d) (v + r.end) (le16 r.end) → Writing a w s list args c x r.next (i + 1)
+            TypesIn s list → Arguments args places → {c : List ℕ} {x : ℕ} → x ≡ v + (r.end + 2) →
+            c ≡ spliced (put_mid v (length b - v) b d) (v + r.end) (le16 r.end) → Writing a w s list args places c x r.next (i + 1)
         writing_next k q {c} {x} n j =
             let g : length c ≡ length b = ap length (written k q j) ∙ length_spliced b v _ (omega (arith, length_entry (encode (made k q).type), exact k q, (writing_fits k q).0)) in
             record {
@@ -259,10 +256,10 @@ module _ {a : List ℕ} {w : ℕ} {s : List ℕ} {list : TypeList} {args : List 
 
 -- ── the two ──
 
-module _ {w : ℕ} {s : List ℕ} {list : TypeList} {args : List ℕ} {r : Stepped} where
-  pub weighed_fit : {room v : ℕ} → WeighsEach room w s list args r → r ≡ Next v → AllFit room w s list args
-  weighed_fit h e = record { is = λ p q. rw e at (h.is p q) }
+module _ {w : ℕ} {s : List ℕ} {list : TypeList} {args places : List ℕ} where
+  pub weighed_fit : {room v : ℕ} → WeighsEach room w s list args places (Ok v) → AllFit room w s list args places
+  weighed_fit h = record { is = h.is }
 
   -- nothing is written where they don't fit
-  pub weighed_stuck : {a : List ℕ} {y : StatusCode} → WeighsEach (length a) w s list args r → r ≡ Refused y → PushesEach s list args a w a (Refused y)
-  weighed_stuck h e = record { steps = λ p q. stuck_refused (rw e at (h.is p q)) }
+  pub weighed_stuck : {a : List ℕ} {y : StatusCode} → WeighsEach (length a) w s list args places (Err y) → PushesEach s list args places a w a (Err y)
+  weighed_stuck h = record { steps = λ p q. stuck_refused (h.is p q) }

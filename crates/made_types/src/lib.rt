@@ -3,18 +3,30 @@
 #![tactic(auto)]
 
 ghost use Rattle.std.specs.Prelude.{◌≤◌, length};
-ghost use Rattle.definitions.specs.Places.{TypeAt};
 ghost use Rattle.record_views.specs.Records.{TypesIn};
 ghost use Rattle.signature_token.specs.Same.{Spans};
-ghost use Rattle.substitution.specs.Instantiate.{Arguments};
 ghost use Rattle.type_stack.specs.Held.{Stacked};
-ghost use Rattle.made_types.specs.Made.{StructIs, PushesStruct, PushesStructReference, PushesFieldReference};
+ghost use Rattle.made_types.specs.Made.{IsStruct, StructIs, PushesStruct, PushesStructReference, PushesFieldReference};
 
 use file_format::StructHandleIndex;
+use materialize_type::MaterializedType;
 use record_views::TypeList;
-use status::StatusCode;
-use substitution::Size;
-use type_stack::Stepped;
+use signature_token::TypeRef;
+use status::{PartialVMResult, StatusCode};
+use type_places::TypePlaces;
+
+// `materialize_type` of a struct whose type arguments stand in s.
+fn materialized<'a>(s: &'a [u8], h: StructHandleIndex, type_args: TypeList) -> MaterializedType<'a>
+    requires { TypesIn s.now type_args }
+    ensures { IsStruct s.now h.0 type_args result }
+{
+    let types = signature_token::TypeList {
+        bytes: s,
+        at: type_args.at,
+        count: type_args.count,
+    };
+    MaterializedType::new(h, types)
+}
 
 // Whether the type of len bytes at `at` of the area is the struct with these type arguments.
 pub fn struct_is(
@@ -29,10 +41,7 @@ pub fn struct_is(
     requires types_in { TypesIn s.now type_args }
     ensures { StructIs area.now at len s.now h.0 type_args result }
 {
-    let first = type_args.at;
-    let n = type_args.count;
-    let end = signature_token::end_of_types(s, first, n);
-    materialize_type::same_materialized(area, at, len, h, s, first, n, end)
+    materialized(s, h, type_args).is_at(area, at, len)
 }
 
 // Pushes the struct with these type arguments.
@@ -42,20 +51,18 @@ pub fn push_struct(
     s: &[u8],
     h: StructHandleIndex,
     type_args: TypeList,
-) -> Stepped
+) -> PartialVMResult<usize>
     requires stacked { Stacked area.old weight }
     requires types_in { TypesIn s.now type_args × (length s.now ≤ 65535) }
     ensures { PushesStruct s.now h.0 type_args area.old weight area.new result }
 {
-    let first = type_args.at;
-    let n = type_args.count;
-    let end = signature_token::end_of_types(s, first, n);
-    let len = materialize_type::materialized_size(first, n, end);
+    let made = materialized(s, h, type_args);
+    let len = made.size();
     if area.len() - weight < len + 2 {
-        return Stepped::Refused(StatusCode::NO_ROOM);
+        return Err(StatusCode::NO_ROOM);
     }
-    materialize_type::materialize_into(&mut area[weight..], h, s, first, n, end);
-    Stepped::Next(type_pushes::seal(area, weight, len))
+    made.write_to(&mut area[weight..]);
+    Ok(type_pushes::seal(area, weight, len))
 }
 
 // Pushes a reference to the struct with these type arguments.
@@ -66,50 +73,39 @@ pub fn push_struct_reference(
     s: &[u8],
     h: StructHandleIndex,
     type_args: TypeList,
-) -> Stepped
+) -> PartialVMResult<usize>
     requires stacked { Stacked area.old weight }
     requires types_in { TypesIn s.now type_args × (length s.now ≤ 65535) }
     ensures { PushesStructReference mutable s.now h.0 type_args area.old weight area.new result }
 {
-    let first = type_args.at;
-    let n = type_args.count;
-    let end = signature_token::end_of_types(s, first, n);
-    let len = materialize_type::materialized_size(first, n, end) + 1;
+    let made = materialized(s, h, type_args);
+    let len = made.size() + 1;
+    let command = type_pushes::reference_command(mutable);
     if area.len() - weight < len + 2 {
-        return Stepped::Refused(StatusCode::NO_ROOM);
+        return Err(StatusCode::NO_ROOM);
     }
-    type_pushes::put_command(area, weight, type_pushes::reference_command(mutable));
-    materialize_type::materialize_into(&mut area[weight + 1..], h, s, first, n, end);
-    Stepped::Next(type_pushes::seal(area, weight, len))
+    type_pushes::put_command(area, weight, command);
+    made.write_to(&mut area[weight + 1..]);
+    Ok(type_pushes::seal(area, weight, len))
 }
 
-// Pushes a reference to the type at `at` of s, its parameters replaced.
+// Pushes a reference to the type, its parameters replaced.
 pub fn push_field_reference(
     area: &mut [u8],
     weight: usize,
     mutable: bool,
-    s: &[u8],
-    at: usize,
-    args: &[u16],
-) -> Stepped
-    requires stacked { Stacked area.old weight }
-    requires type_at { TypeAt s.now at }
-    requires arguments { Arguments s.now args.now }
-    ensures { PushesFieldReference mutable s.now at args.now area.old weight area.new result }
+    ty: TypeRef,
+    args: TypePlaces,
+) -> PartialVMResult<usize>
+    requires { Stacked area.old weight }
+    ensures { PushesFieldReference mutable ty.entry.bytes.now ty.entry.at args.entry.bytes.now args.entry.places.now area.old weight area.new result }
 {
-    let size = substitution::instantiated_size(s, at, s, args);
-    let Size::Bytes {
-        next: _,
-        len: inner,
-    } = size
-    else {
-        return Stepped::Refused(StatusCode::OUT_OF_TABLE);
-    };
-    let len = inner + 1;
+    let len = substitution::instantiated_size(ty, args)?.len + 1;
+    let command = type_pushes::reference_command(mutable);
     if area.len() - weight < len + 2 {
-        return Stepped::Refused(StatusCode::NO_ROOM);
+        return Err(StatusCode::NO_ROOM);
     }
-    type_pushes::put_command(area, weight, type_pushes::reference_command(mutable));
-    substitution_writer::instantiate_into(&mut area[weight + 1..], s, at, s, args);
-    Stepped::Next(type_pushes::seal(area, weight, len))
+    type_pushes::put_command(area, weight, command);
+    substitution_writer::instantiate_into(&mut area[weight + 1..], ty, args);
+    Ok(type_pushes::seal(area, weight, len))
 }

@@ -1,14 +1,17 @@
--- The laws of a struct with its arguments: its bytes, its size, its writer and its comparison.
+-- The laws of a struct with its arguments: its bytes, its writer and its comparison.
 use Rattle.std.specs.Prelude.{◌≡◌, refl, List, [], ◌∷◌, ◌++◌, Bool, true, false, ℕ, zero, suc, ◌+◌, ◌-◌, ◌/◌, ◌%◌, ◌≤◌, length, take, drop}
-use Rattle.std.proofs.Common.{sym, ap, ◌∙◌, arith, length-append, length-take-le}
-use Rattle.definitions.specs.SignatureToken.{SignatureToken, SignatureTokens, []ᵗ, ◌∷ᵗ◌, arguments, count, encode, encode_all}
+use Rattle.std.proofs.Common.{sym, ap, ◌∙◌, append_assoc, drop-drop, arith, length-append, length-take-le}
+use Rattle.std.proofs.lemmas.List.{take_at, drop_at}
+use Rattle.definitions.specs.SignatureToken.{SignatureToken, SignatureTokens, []ᵗ, ◌∷ᵗ◌, arguments, count, encode, encode_all, same}
 use Rattle.definitions.specs.Substitution.{materialize_type}
 use Rattle.definitions.specs.Places.{At}
-use Rattle.theorems.specs.AtLaws.{at_part, at_room, at_front, at_back}
+use Rattle.theorems.specs.AtLaws.{at_room, at_front, at_back}
 use Rattle.theorems.specs.Bytes.{list_of, arguments_list_of, one_type}
-use Rattle.signature_token.specs.Same.{Spans, span_within, same_yes, same_no}
-use Rattle.byte_parts.specs.Bytes.{sets_append, sets_over, Fits, Copied, SameBytes, at_append, part_long}
-use Rattle.materialize_type.specs.Materialize.{command_bytes, command_length, IsCommand, IsLength, ArgumentList, materialized, MaterializedSize, StructRoom, MaterializedInto, MaterializedSame}
+use Rattle.signature_token.specs.Same.{Spans, same_yes, same_no}
+use Rattle.substitution.specs.Bytes.{over, Tells, at_append}
+use Rattle.materialize_type.specs.declared.MaterializedType.{MaterializedType}
+use Rattle.materialize_type.specs.Materialized.{type_of}
+use Rattle.materialize_type.specs.Materialize.{command_bytes, command_length, IsCommand, IsLength, materialized}
 
 -- ── its bytes ──
 
@@ -51,102 +54,76 @@ materialized_bytes h []ᵗ = refl
 materialized_bytes h (t ∷ᵗ ts) =
     ap (λ (us : SignatureTokens). 0x09 ∷ h % 256 ∷ h / 256 ∷ suc (count us) ∷ (encode t ++ encode_all us)) (arguments_list_of ts)
 
-module _ (h : ℕ) {args : List ℕ} {first n end : ℕ} (l : ArgumentList args first n end) where
-  -- the arguments' bytes as they stand
-  list_part : take (end - first) (drop first args) ≡ encode_all l.types.types
-  list_part =
-      let e : end - first ≡ length (encode_all l.types.types) = omega (arith, l.ends) in
-      ap (λ (k : ℕ). take k (drop first args)) e ∙ at_part (encode_all l.types.types) l.types.stands
+head_long : (h n : ℕ) → length (take (command_length n) (command_bytes h n)) ≡ command_length n
+head_long h n = length-take-le (command_length n) (command_bytes h n) (omega (arith, command_short n, command_four h n))
 
-  pub laid : encode (materialized h l.types.types) ≡ take (command_length n) (command_bytes h n) ++ take (end - first) (drop first args)
-  laid =
-      materialized_bytes h l.types.types
-      ∙ ap (λ (k : ℕ). take (command_length k) (command_bytes h k) ++ encode_all l.types.types) l.types.counted
-      ∙ ap (λ (bs : List ℕ). take (command_length n) (command_bytes h n) ++ bs) (sym list_part)
+pub size_is : (h : ℕ) (ts : SignatureTokens) {n k : ℕ} → count ts ≡ n → IsLength n k → k + length (encode_all ts) ≡ length (encode (materialized h ts))
+size_is h ts {n} c f =
+    let m = count ts in
+    omega (
+      arith,
+      ap length (materialized_bytes h ts),
+      length-append (take (command_length m) (command_bytes h m)) (encode_all ts),
+      head_long h m,
+      f.is,
+      ap command_length c,
+    )
 
-  head_long : length (take (command_length n) (command_bytes h n)) ≡ command_length n
-  head_long = length-take-le (command_length n) (command_bytes h n) (omega (arith, command_short n, command_four h n))
+-- it has little more than its arguments
+pub made_short : (m : MaterializedType) → length (encode (type_of m)) ≤ 4 + length m.type_args.bytes.now
+made_short m =
+    let q = m.type_args.stand in
+    omega (arith, size_is m.struct_handle.0 q.types refl (record { is = refl }), command_short (count q.types), at_room q.stands)
 
-  pub laid_long : length (encode (materialized h l.types.types)) ≡ command_length n + (end - first)
-  laid_long =
-      ap length laid
-      ∙ omega (arith, length-append (take (command_length n) (command_bytes h n)) (take (end - first) (drop first args)), head_long, ap length list_part, l.ends)
+-- bs written over the front of d, and cs behind it
+two_parts : (d bs cs : List ℕ) {k : ℕ} → length bs ≡ k →
+    take k (bs ++ drop k d) ++ (cs ++ drop (k + length cs - k) (drop k (bs ++ drop k d))) ≡ over (bs ++ cs) d
+two_parts d bs cs {k} e =
+    let z : k + length cs - k ≡ length cs = omega arith in
+    let w : length (bs ++ cs) ≡ k + length cs = omega (arith, length-append bs cs) in
+    rw (take_at bs (drop k d) k e, drop_at bs (drop k d) k e, z, drop-drop (length cs) k d, ← append_assoc bs cs (drop (k + length cs) d), w) refl
 
-  -- the arguments are there
-  pub list_there : end - first ≤ length args - first
-  list_there = omega (arith, at_room l.types.stands, l.ends)
-
--- ── size and writer ──
-
-pub materialized_size : {first n end k : ℕ} → IsLength n k → MaterializedSize first n end (k + (end - first))
-materialized_size e = record { is = λ h args l. omega (arith, e.is, laid_long h l) }
-
+-- the command b and the arguments' bytes
 module _ {h n : ℕ} {b : List ℕ} {k : ℕ} (e : IsCommand h n b) (f : IsLength n k) where
-  pub command_there : k ≤ length b - 0
+  pub command_there : k ≤ length b
   command_there = omega (arith, command_short n, command_four h n, ap length e.is, f.is)
 
-  head_is : take k (drop 0 b) ≡ take (command_length n) (command_bytes h n)
-  head_is = rw (e.is, f.is)
+  pub laid : (ts : SignatureTokens) → count ts ≡ n → encode (materialized h ts) ≡ take k b ++ encode_all ts
+  laid ts c = materialized_bytes h ts ∙ rw (c, e.is, f.is)
 
-  pub command_within : {s : List ℕ} {x len : ℕ} → Spans s x len → k ≤ len → Fits b 0 k x (length s)
-  command_within p q = record { there = command_there; free = omega (arith, span_within p) }
+  -- ── writer ──
 
-module _ {h n : ℕ} {b : List ℕ} {k : ℕ} (e : IsCommand h n b) (f : IsLength n k) {args : List ℕ} {first end : ℕ} where
-  pub command_room : {room : ℕ} → StructRoom h args first n end room → Fits b 0 k 0 room
-  command_room m = record { there = command_there e f; free = omega (arith, f.is, laid_long h m.list, m.fits) }
+  -- the command first, and then the arguments
+  pub written : (ts : SignatureTokens) (d : List ℕ) → count ts ≡ n →
+      take k (take k b ++ drop k d) ++ (encode_all ts ++ drop (k + length (encode_all ts) - k) (drop k (take k b ++ drop k d)))
+      ≡ over (encode (materialized h ts)) d
+  written ts d c = two_parts d (take k b) (encode_all ts) (length-take-le k b command_there) ∙ ap (λ (bs : List ℕ). over bs d) (sym (laid ts c))
 
-  pub list_room : {room o : ℕ} → o ≡ 0 + k → StructRoom h args first n end room → Fits args first (end - first) o room
-  list_room q m = record { there = list_there h m.list; free = omega (arith, f.is, laid_long h m.list, m.fits) }
+  -- ── comparison ──
 
-  pub materialized_into :
-      {d d₁ d₂ : List ℕ} {o o' : ℕ} → Copied d 0 b 0 k d₁ o → Copied d₁ o args first (end - first) d₂ o' → MaterializedInto h args first n end d d₂
-  materialized_into {d} {d₁} {d₂} {o} c v = record {
-    is = λ m.
-        let z : o ≡ 0 + length (take k (drop 0 b)) = c.reached ∙ ap (λ (j : ℕ). 0 + j) (sym (part_long b 0 k (command_there e f))) in
-        v.now
-        ∙ rw (c.now, z, sets_append d 0 (take k (drop 0 b)) (take (end - first) (drop first args)), head_is e f, ← laid h m.list)
-        (sets_over d (encode (materialized h m.list.types.types)) m.fits);
-  }
+  module _ (ts : SignatureTokens) (c : count ts ≡ n) {s : List ℕ} {x len : ℕ} where
+    -- the struct's bytes, where its type is the one at x
+    laid_at : (p : Spans s x len) → p.type ≡ materialized h ts → At s x (take k b ++ encode_all ts)
+    laid_at p q = rw (← laid ts c, ← q) p.stands
 
--- ── comparison ──
+    pub command_differs : Tells false (At s x (take k b)) → (p : Spans s x len) → false ≡ same p.type (materialized h ts)
+    command_differs d p = sym (same_no p.type (materialized h ts) (λ q. d (at_front (take k b) (encode_all ts) (laid_at p q))))
+
+    pub arguments_compared : (r : Bool) → Tells true (At s x (take k b)) → Tells r (At s (x + k) (encode_all ts)) → (p : Spans s x len) → r ≡ same p.type (materialized h ts)
+    arguments_compared true d v p =
+        let z = length-take-le k b command_there in
+        let w : x + k ≡ x + length (take k b) = omega arith in
+        let a : At s x (encode (materialized h ts)) = rw (laid ts c) (at_append (take k b) (encode_all ts) d (rw w at v)) in
+        sym (same_yes p.type (materialized h ts) (one_type p.type (materialized h ts) p.stands a))
+    arguments_compared false d v p =
+        let z = length-take-le k b command_there in
+        let w : x + k ≡ x + length (take k b) = omega arith in
+        sym (same_no p.type (materialized h ts) (λ q. v (rw w (at_back (take k b) (encode_all ts) (laid_at p q)))))
 
 -- another length
 pub length_differs :
-    {s : List ℕ} {x len h : ℕ} {args : List ℕ} {first n end k : ℕ} → IsLength n k → (len ≡ k + (end - first) → ⊥) →
-    MaterializedSame s x len h args first n end false
-length_differs {s} {x} {len} {h} f d = record {
-  is = λ p l.
-      sym (same_no p.type (materialized h l.types.types) (λ q.
-      d (omega (arith, f.is, p.long, laid_long h l, ap (λ (t : SignatureToken). length (encode t)) q))));
-}
-
-module _ {h n : ℕ} {b : List ℕ} {k : ℕ} (e : IsCommand h n b) (f : IsLength n k) {args : List ℕ} {first end : ℕ} {s : List ℕ} {x len : ℕ} where
-  pub list_within : Spans s x len → ArgumentList args first n end → len ≡ k + (end - first) → Fits args first (end - first) (x + k) (length s)
-  list_within p l q = record { there = list_there h l; free = omega (arith, span_within p) }
-
-  -- the struct's bytes, where its type is the one at x
-  laid_at : (p : Spans s x len) (l : ArgumentList args first n end) → p.type ≡ materialized h l.types.types → At s x (take k (drop 0 b) ++ take (end - first) (drop first args))
-  laid_at p l q = rw (head_is e f, ← laid h l, ← q) p.stands
-
-  pub command_differs : SameBytes s x b 0 k false → MaterializedSame s x len h args first n end false
-  command_differs c = record {
-    is = λ p l.
-        sym (same_no p.type (materialized h l.types.types) (λ q. c.tells (at_front (take k (drop 0 b)) (take (end - first) (drop first args)) (laid_at p l q))));
-  }
-
-  pub list_compared : (r : Bool) → SameBytes s x b 0 k true → SameBytes s (x + k) args first (end - first) r → MaterializedSame s x len h args first n end r
-  list_compared true c v = record {
-    is = λ p l.
-        let z = part_long b 0 k (command_there e f) in
-        let w : x + k ≡ x + length (take k (drop 0 b)) = omega arith in
-        let a : At s x (encode (materialized h l.types.types)) =
-        rw (laid h l, ← head_is e f) (at_append (take k (drop 0 b)) (take (end - first) (drop first args)) c.tells (rw w at v.tells)) in
-        sym (same_yes p.type (materialized h l.types.types) (one_type p.type (materialized h l.types.types) p.stands a));
-  }
-  list_compared false c v = record {
-    is = λ p l.
-        let z = part_long b 0 k (command_there e f) in
-        let w : x + k ≡ x + length (take k (drop 0 b)) = omega arith in
-        sym (same_no p.type (materialized h l.types.types) (λ q.
-        v.tells (rw w (at_back (take k (drop 0 b)) (take (end - first) (drop first args)) (laid_at p l q)))));
-  }
+    (h : ℕ) (ts : SignatureTokens) {n k : ℕ} {s : List ℕ} {x len : ℕ} → count ts ≡ n → IsLength n k → (len ≡ k + length (encode_all ts) → ⊥) →
+    (p : Spans s x len) → false ≡ same p.type (materialized h ts)
+length_differs h ts c f d p =
+    sym (same_no p.type (materialized h ts) (λ q.
+    d (omega (arith, p.long, size_is h ts c f, ap (λ (t : SignatureToken). length (encode t)) q))))

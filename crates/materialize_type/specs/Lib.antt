@@ -1,2 +1,3 @@
 -- The modules of this crate's specs.
 pub mod Materialize
+pub mod Materialized

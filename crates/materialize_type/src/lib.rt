@@ -1,12 +1,16 @@
-// `materialize_type` of type_safety.rs over bytes: a struct with its arguments, as a size, as a writer into a lent slice and as a comparison
+// `materialize_type` of type_safety.rs over bytes: a struct with its type arguments, which is measured, written into a lent slice and compared
 // with a type that stands elsewhere.
 #![tactic(auto)]
 
-ghost use Rattle.std.specs.Prelude.{◌-◌, ◌≤◌, ◌<◌, length};
+ghost use Rattle.std.specs.Prelude.{◌≡◌, ◌≤◌, ◌<◌, length};
+ghost use Rattle.definitions.specs.Places.{TypesAt, EndOfTypes};
+ghost use Rattle.definitions.specs.SignatureToken.{encode, encode_all, same};
 ghost use Rattle.signature_token.specs.Same.{Spans};
-ghost use Rattle.materialize_type.specs.Materialize.{IsCommand, IsLength, ArgumentList, StructRoom, MaterializedSize, MaterializedInto, MaterializedSame};
+ghost use Rattle.substitution.specs.Bytes.{over};
+ghost use Rattle.materialize_type.specs.Materialize.{IsCommand, IsLength, materialized, EndOfTypes-prop};
 
 use file_format::StructHandleIndex;
+use signature_token::TypeList;
 
 // The command of a struct with n arguments and its operands. Where there are none the last byte does not count.
 fn struct_command(h: StructHandleIndex, n: usize) -> [u8; 4]
@@ -24,54 +28,72 @@ fn command_length(n: usize) -> usize
     if n == 0 { 3 } else { 4 }
 }
 
-// `materialize_type`: the size of a struct with the n arguments that stand from `first` to `end`.
-pub fn materialized_size(first: usize, n: usize, end: usize) -> usize
-    requires { (first ≤ end) × (end - first ≤ 65536) }
-    ensures { MaterializedSize first n end result }
-{
-    command_length(n) + (end - first)
+// A struct with its type arguments, at most 255. Where they end is kept, since it is asked more than once and found by a walk.
+#[derive(Clone, Copy)]
+pub struct MaterializedType<'a> {
+    pub struct_handle: StructHandleIndex,
+    pub type_args: TypeList<'a>,
+    end: usize,
+    ghost ends: { EndOfTypes type_args.bytes.now type_args.at type_args.count end } by { EndOfTypes-prop type_args.bytes.now type_args.at type_args.count end },
+    ghost few: { type_args.count < 256 },
 }
 
-// `materialize_type`: writes the struct with the n arguments that stand from `first` to `end` of args to the front of out.
-pub fn materialize_into(
-    out: &mut [u8],
-    h: StructHandleIndex,
-    args: &[u8],
-    first: usize,
-    n: usize,
-    end: usize,
-)
-    requires { StructRoom h.0 args.now first n end (length out.old) }
-    ensures { MaterializedInto h.0 args.now first n end out.old out.new }
-{
-    let command = struct_command(h, n);
-    let after = byte_parts::copy(out, 0, &command, 0, command_length(n));
-    byte_parts::copy(out, after, args, first, end - first);
-}
+impl<'a> MaterializedType<'a> {
+    ghost use Rattle.materialize_type.specs.Materialized.{type_of};
 
-// `materialize_type` and `==`: whether the type of len bytes at x of s is the struct with the n arguments that stand from `first` to
-// `end` of args.
-pub fn same_materialized(
-    s: &[u8],
-    x: usize,
-    len: usize,
-    h: StructHandleIndex,
-    args: &[u8],
-    first: usize,
-    n: usize,
-    end: usize,
-) -> bool
-    requires spans { Spans s.now x len }
-    requires argument_list { ArgumentList args.now first n end }
-    ensures { MaterializedSame s.now x len h.0 args.now first n end result }
-{
-    let k = command_length(n);
-    if len != k + (end - first) {
-        return false;
+    // `materialize_type`.
+    pub fn new(struct_handle: StructHandleIndex, type_args: TypeList<'a>) -> MaterializedType<'a>
+        requires { type_args.count < 256 }
+        ensures made { (q : TypesAt type_args.entry.bytes.now type_args.entry.at type_args.entry.count) → type_of result ≡ materialized struct_handle.0 q.types }
+        ensures bytes { result.type_args.bytes.now ≡ type_args.entry.bytes.now }
+    {
+        MaterializedType {
+            struct_handle,
+            type_args,
+            end: type_args.end(),
+        }
     }
-    let command = struct_command(h, n);
-    if byte_parts::same_bytes(s, x, &command, 0, k) {
-        return byte_parts::same_bytes(s, x + k, args, first, end - first);
+
+    // The bytes of its arguments. Where there are none, nothing says that their place is within the bytes.
+    fn arguments(self) -> &'a [u8]
+        ensures { result.now ≡ encode_all self.entry.type_args.stand.types }
+    {
+        if self.type_args.count == 0 {
+            return &[];
+        }
+        &self.type_args.bytes[self.type_args.at..self.end]
     }
-    false
+
+    // How many bytes it has.
+    pub fn size(self) -> usize
+        ensures { result ≡ length (encode (type_of self.entry)) }
+    {
+        command_length(self.type_args.count) + self.arguments().len()
+    }
+
+    // Writes it to the front of out.
+    pub fn write_to(self, out: &mut [u8])
+        requires { length (encode (type_of self)) ≤ length out.old }
+        ensures { out.new ≡ over (encode (type_of self.entry)) out.old }
+    {
+        let command = struct_command(self.struct_handle, self.type_args.count);
+        let k = command_length(self.type_args.count);
+        let args = self.arguments();
+        out[..k].copy_from_slice(&command[..k]);
+        out[k..k + args.len()].copy_from_slice(args);
+    }
+
+    // `==`: whether it is the type of len bytes at x of s. Lengths first, since most that differ differ there.
+    pub fn is_at(self, s: &[u8], x: usize, len: usize) -> bool
+        requires { Spans s.now x len }
+        ensures { (p : Spans s.now x len) → result ≡ same p.type (type_of self.entry) }
+    {
+        let k = command_length(self.type_args.count);
+        let args = self.arguments();
+        if len != k + args.len() {
+            return false;
+        }
+        let command = struct_command(self.struct_handle, self.type_args.count);
+        s[x..].starts_with(&command[..k]) && s[x + k..].starts_with(args)
+    }
 }

@@ -36,7 +36,7 @@ pub fn u16_at(s: &[u8], at: usize) -> u16
     requires { at + 1 < length s.now }
     ensures { result ≡ get_or s.now at 0 + 256 * get_or s.now (at + 1) 0 }
 {
-    wide16(s[at]) + 256 * wide16(s[at + 1])
+    u16::from_le_bytes([s[at], s[at + 1]])
 }
 
 // The same as a number of the machine.
@@ -44,5 +44,5 @@ pub fn number_at(s: &[u8], at: usize) -> usize
     requires { at + 1 < length s.now }
     ensures { result ≡ get_or s.now at 0 + 256 * get_or s.now (at + 1) 0 }
 {
-    widest(u16_at(s, at))
+    usize::from(u16_at(s, at))
 }

@@ -5,7 +5,7 @@ use Rattle.definitions.specs.SignatureToken.{SignatureToken}
 use Rattle.definitions.specs.TypeSafety.{pop_expecting, cast}
 use Rattle.signature_token.specs.TokenLaws.{IsLeaf}
 use Rattle.type_stack.specs.Stepping.{StepsTo}
-use Rattle.type_stack.specs.declared.Stepped.{Stepped}
+use Rattle.type_stack.specs.Answers.{Stepped}
 
 -- an operand that must be the leaf of that command is popped
 pub record PopsLeaf (command : ℕ) (status : StatusCode) (a : List ℕ) (w : ℕ) (r : Stepped) : Type 0 where

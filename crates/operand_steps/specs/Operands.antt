@@ -18,16 +18,13 @@ use Rattle.signature_token.specs.Token.{token_of, encode_pos}
 use Rattle.signature_token.specs.TokenLaws.{IsLeaf, leaf_bytes}
 use Rattle.type_tests.specs.Kinds.{ReferentAt, LeafAt, referent_of}
 use Rattle.signature_token.specs.Same.{Spans, SameAt, same_is}
+use Rattle.std.specs.Prelude.{Ok}
+use Rattle.type_stack.specs.declared.Entry.{Entry}
+use Rattle.type_stack.specs.Answers.{Stepped}
 use Rattle.type_stack.specs.Held.{Stacked, Here, Part, part}
 use Rattle.type_stack.specs.Tops.{TopOf, TopTwoOf, Topped, topped, topped_two}
 use Rattle.type_stack.specs.Stepping.{StepsTo, push_stands}
 use Rattle.type_stack.specs.Pushing.{PushesTo}
-use Rattle.type_stack.specs.declared.Top.{Top}
-use Rattle.type_stack.specs.declared.Top.TheVariants.{Entry}
-use Rattle.type_stack.specs.declared.TopTwo.{TopTwo}
-use Rattle.type_stack.specs.declared.TopTwo.TheVariants.{Entries}
-use Rattle.type_stack.specs.declared.Stepped.{Stepped}
-use Rattle.type_stack.specs.declared.Stepped.TheVariants.{Next}
 
 -- ── an operand, as the look-ups are asked of it ──
 
@@ -53,47 +50,47 @@ entry_room k o =
     let e = o.here.long in
     (omega (arith, encode_pos o.type), omega arith)
 
--- ── what the looks at the top of the stack say ──
+-- ── what the pops say ──
 
-module _ {a : List ℕ} {w : ℕ} {q : Top} {x l : ℕ} (k : Stacked a w) (p : TopOf a w q) (i : q ≡ Entry x l) where
-  pub top_type : TypeAt a x
-  top_type = operand (topped k p i).here
+module _ {a : List ℕ} {w : ℕ} {x : Entry} (k : Stacked a w) (p : TopOf a w (Ok x)) where
+  pub top_type : TypeAt a x.start
+  top_type = operand (topped k p).here
 
-  pub top_span : Spans a x l
-  top_span = span (topped k p i).here
+  pub top_span : Spans a x.start x.len
+  top_span = span (topped k p).here
 
-  pub top_under : Stacked a x
-  top_under = (topped k p i).under
+  pub top_under : Stacked a x.start
+  top_under = (topped k p).under
 
-  pub top_room : (x < x + l) × (x + l + 2 ≤ length a)
-  top_room = entry_room k (topped k p i)
+  pub top_room : (x.start < x.start + x.len) × (x.start + x.len + 2 ≤ length a)
+  top_room = entry_room k (topped k p)
 
   -- a type is pushed where its equal stands, the operand
-  pub push_top : {t u : SignatureToken} → Here a x l u → t ≡ u → StepsTo (push t) a x a (Next w)
-  push_top {t} h e = push_stands t k (topped k p i) (rw e h.at)
+  pub push_top : {t u : SignatureToken} → Here a x.start x.len u → t ≡ u → StepsTo (push t) a x.start a (Ok w)
+  push_top {t} h e = push_stands t k (topped k p) (rw e h.at)
 
-module _ {a : List ℕ} {w : ℕ} {q : TopTwo} {x l y m : ℕ} (k : Stacked a w) (p : TopTwoOf a w q) (i : q ≡ Entries x l y m) where
-  pub first_span : Spans a x l
-  first_span = span (topped_two k p i).0.here
+module _ {a : List ℕ} {w : ℕ} {x y : Entry} (k : Stacked a w) (p : TopTwoOf a w (Ok (x, y))) where
+  pub first_span : Spans a x.start x.len
+  first_span = span (topped_two k p).0.here
 
-  pub first_type : TypeAt a x
-  first_type = operand (topped_two k p i).0.here
+  pub first_type : TypeAt a x.start
+  first_type = operand (topped_two k p).0.here
 
-  pub first_under : Stacked a x
-  first_under = (topped_two k p i).0.under
+  pub first_under : Stacked a x.start
+  first_under = (topped_two k p).0.under
 
-  pub second_type : TypeAt a y
-  second_type = operand (topped_two k p i).1.here
+  pub second_type : TypeAt a y.start
+  second_type = operand (topped_two k p).1.here
 
-  pub second_under : Stacked a y
-  second_under = (topped_two k p i).1.under
+  pub second_under : Stacked a y.start
+  second_under = (topped_two k p).1.under
 
   -- a type is pushed where its equal stands, the lower operand
-  pub push_second : {t u : SignatureToken} → Here a y m u → t ≡ u → StepsTo (push t) a y a (Next x)
-  push_second {t} h e = push_stands t first_under (topped_two k p i).1 (rw e h.at)
+  pub push_second : {t u : SignatureToken} → Here a y.start y.len u → t ≡ u → StepsTo (push t) a y.start a (Ok x.start)
+  push_second {t} h e = push_stands t first_under (topped_two k p).1 (rw e h.at)
 
--- what the calls on operands require: `search` finds the look at the top among what was learnt
-pub ruleset operands = (top_type, top_under, first_span, first_type, first_under, second_type, second_under)
+-- what the calls on operands require: `search` finds the pop among what was learnt
+pub ruleset operands = (top_type, top_span, top_under, first_span, first_type, first_under, second_type, second_under)
 
 -- ── two tests in a row, r of x and then q of y ──
 

@@ -1,11 +1,10 @@
 -- The readers of this crate's functions, where the definitions have no name for one; what follows a type's command.
-use Rattle.std.specs.Prelude.{◌≡◌, Bool, true, false, List, ℕ, ◌<◌, eqb, get_or}
+use Rattle.std.specs.Prelude.{◌≡◌, Bool, true, false, List, ℕ, eqb, get_or, Option, Some, None, Ok}
 use Rattle.definitions.specs.Reading.{Reader, ◌>>=◌, byte, many}
 use Rattle.definitions.specs.Commands.{TypeCommand, leaf, over, instantiation, type_commands, Commands, commands_of}
 use Rattle.definitions.specs.CompiledUnit.{Head}
 use Rattle.definitions.specs.Reader.{type, type_within, types, struct_handle, pair_of, struct_definition}
 use Rattle.record_reader.specs.ReadTo.{forget, read_to}
-use Rattle.record_reader.specs.declared.ReadTo.TheVariants.{Next}
 use Rattle.record_reader.specs.declared.TypeShape.{TypeShape}
 use Rattle.record_reader.specs.declared.TypeShape.TheVariants.{Leaf, Over, Index, Instantiation, Unknown}
 
@@ -42,6 +41,7 @@ shape_of TypeCommand.unknown = Unknown
 abbrev pub type_shape : ℕ → TypeShape
 type_shape c = shape_of (get_or type_commands c TypeCommand.unknown)
 
--- where r is not 0, a type at `at` ends at r
-abbrev pub PlainEnd : List ℕ → ℕ → ℕ → ℕ → Type 0
-PlainEnd s at levels r = 0 < r → (head : Head) → Next r ≡ read_to (type_within (commands_of head) levels s at)
+-- the type at `at` ends where the answer says, if it says where
+abbrev pub PlainEnd : List ℕ → ℕ → ℕ → Option ℕ → Type 0
+PlainEnd s at levels (Some end) = (head : Head) → Ok end ≡ read_to (type_within (commands_of head) levels s at)
+PlainEnd s at levels None = Unit {0}

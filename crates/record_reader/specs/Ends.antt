@@ -2,7 +2,7 @@
 -- each reader of a type, a record and an instruction.
 use Rattle.std.proofs.Math.Path.{◌≡◌, refl}
 use Rattle.std.proofs.Common.{sym, ap, ◌∙◌, arith}
-use Rattle.std.specs.Prelude.{Bool, true, false, ltb, leb, eqb, get_or}
+use Rattle.std.specs.Prelude.{Bool, true, false, ltb, leb, eqb, get_or, Ok}
 use mathlib.Core.List.{List, []}
 use Prim.Native.Nat.{ℕ, zero, suc, ◌+◌, ◌≤◌}
 use Rattle.std.proofs.Math.Decide.{dec_le}
@@ -15,7 +15,6 @@ use Rattle.definitions.specs.CompiledUnit.{Native, Declared}
 use Rattle.definitions.specs.Reading.{Read, read, stop, Reader, next, ◌>>=◌, ◌>>◌, give, fail, here, need, byte, skip, many}
 use Rattle.definitions.specs.Commands.{TypeCommand, leaf, over, instantiation, InstructionForm, plain, unkept, local, Commands, type_command, instruction_form}
 use Rattle.definitions.specs.Reader.{rest_of_type, type_within, type, types, byte_up_to, struct_handle, pair_of, field_information, struct_definition, signature_of, function_view, operands, instruction}
-use Rattle.record_reader.specs.declared.ReadTo.TheVariants.{Next}
 use Rattle.record_reader.specs.ReadTo.{read_to}
 use Rattle.record_reader.specs.Alike.{Alike, skip_next, skip_short, alike_forget, alike_map, byte_takes, u16_takes, number_takes, pair_of_takes}
 use Rattle.record_reader.specs.Bodies.{counted, pair, if_else, body_of}
@@ -28,7 +27,7 @@ pub record Ends (s : List ℕ) (p e : ℕ) : Type 0 where
 
 -- m takes n bytes or more, and none that is missing
 pub record Reaches {A : Type 0} (n : ℕ) (m : Reader A) : Type 0 where
-  pub reaches : (s : List ℕ) (at e : ℕ) → at ≤ length s → read_to (m s at) ≡ Next e → Ends s (at + n) e
+  pub reaches : (s : List ℕ) (at e : ℕ) → at ≤ length s → read_to (m s at) ≡ Ok e → Ends s (at + n) e
 
 -- the same, where the value is known
 pub reads_within :
@@ -52,7 +51,7 @@ module _ {A B : Type 0} {m : Reader A} {f : A → Reader B} {a b : ℕ} where
   unfolding ◌>>=◌ next read_to
   then-reaches h k = record { reaches = λ s at e l q. go s at e l (m s at) refl q }
     where
-      go : (s : List ℕ) (at e : ℕ) → at ≤ length s → (r : Read A) → m s at ≡ r → read_to (next r (λ x d. f x s d)) ≡ Next e → Ends s (at + (a + b)) e
+      go : (s : List ℕ) (at e : ℕ) → at ≤ length s → (r : Read A) → m s at ≡ r → read_to (next r (λ x d. f x s d)) ≡ Ok e → Ends s (at + (a + b)) e
       go s at e l (read x d) p q =
           let i = h.reaches s at d l (ap read_to p) in
           let j = (k x).reaches s d e i.within q in
@@ -63,7 +62,7 @@ skip_reaches : (n : ℕ) → Reaches n (skip n)
 unfolding read_to
 skip_reaches n = record { reaches = λ s at e l q. go s at e (dec_le (at + n) (length s)) q }
   where
-    go : (s : List ℕ) (at e : ℕ) → Dec (at + n ≤ length s) → read_to (skip n s at) ≡ Next e → Ends s (at + n) e
+    go : (s : List ℕ) (at e : ℕ) → Dec (at + n ≤ length s) → read_to (skip n s at) ≡ Ok e → Ends s (at + n) e
     go s at e (yes h) q = let z : at + n ≡ e = let y = rw (skip_next s at n h) at q in cc in record { far = omega arith; within = omega arith }
     go s at e (no h) q = let z : ◌≡◌ {A = ℕ} 0 1 = let y = rw (skip_short s at n (omega arith)) at q in cc in absurd (omega arith)
 

@@ -1,6 +1,7 @@
 -- From what was read to the bytes: one law for each way that the code reads a record or an instruction again.
-use Rattle.std.specs.Prelude.{◌≡◌, refl, Bool, true, false, List, [], ◌∷◌, ℕ, zero, suc, ◌+◌, ◌*◌, ◌≤◌, ◌<◌, leb, T, get_or}
+use Rattle.std.specs.Prelude.{◌≡◌, refl, Bool, true, false, List, [], ◌∷◌, ℕ, zero, suc, ◌+◌, ◌*◌, ◌≤◌, ◌<◌, leb, T, get_or, Ok}
 use Rattle.std.proofs.Math.Path.{sym}
+use Rattle.std.specs.Int.{from_le_bytes, w64}
 use Rattle.std.proofs.Common.{ap, ap₂, ◌∙◌, arith, leb→le}
 use Rattle.std.proofs.Math.Decide.{dec_le}
 use Rattle.std.proofs.Math.ListN.{length, get_or-eq_default}
@@ -13,7 +14,6 @@ use Rattle.definitions.specs.Reading.{read, next, ◌>>=◌, ◌>>◌, give, her
 use Rattle.definitions.specs.Places.{TypesAt}
 use Rattle.definitions.specs.Reader.{type, types, byte_up_to, field_information, struct_definition, operands, instruction}
 use Rattle.record_reader.specs.ReadTo.{read_to}
-use Rattle.record_reader.specs.declared.ReadTo.TheVariants.{Next}
 use Rattle.record_reader.specs.Alike.{skip_short, number_takes}
 use Rattle.instruction_reader.specs.Widths.{width_of, operand_width}
 use Rattle.record_reader.specs.BodyLaws.{same_instructions}
@@ -143,7 +143,7 @@ def_room {s} {at} p k =
 
 -- ── instructions ──
 
-skip_room : (n : ℕ) (s : List ℕ) (at : ℕ) {e : ℕ} → read_to (skip n s at) ≡ Next e → at + n ≤ length s
+skip_room : (n : ℕ) (s : List ℕ) (at : ℕ) {e : ℕ} → read_to (skip n s at) ≡ Ok e → at + n ≤ length s
 unfolding read_to
 skip_room n s at {e} h = go (dec_le (at + n) (length s))
   where
@@ -225,24 +225,24 @@ is_here p o f g h = record { known = rw o (reread p).known; opcode = o; is = rw 
 
 -- ── a u64 ──
 
-two_more : (n : ℕ) (s : List ℕ) (at : ℕ) → number_of (suc (suc n)) s at ≡ u16_of s at + 65536 * number_of n s (at + 2)
-unfolding number_of
-two_more n s at =
-    let e : number_of n s (at + 1 + 1) ≡ number_of n s (at + 2) = ap (number_of n s) (omega arith) in
-    omega arith
+-- a u64 is eight bytes, the low one first
+module _ (s : List ℕ) (at : ℕ) where
+  one_more : (n i : ℕ) → number_of (suc n) s (at + i) ≡ get_or s (at + i) 0 + 256 * number_of n s (at + (i + 1))
+  unfolding number_of
+  one_more n i = let e : at + i + 1 ≡ at + (i + 1) = omega arith in ap (λ (x : ℕ). get_or s (at + i) 0 + 256 * number_of n s x) e
 
--- a u64 is four u16
-pub four_u16 : (s : List ℕ) (at : ℕ) → number_of 8 s at ≡ u16_of s at + 65536 * (u16_of s (at + 2) + 65536 * (u16_of s (at + 4) + 65536 * u16_of s (at + 6)))
-unfolding number_of
-four_u16 s at =
-    let a = two_more 6 s at in
-    let b = two_more 4 s (at + 2) in
-    let c = ap (number_of 4 s) (fours at) ∙ two_more 2 s (at + 4) in
-    let d = ap (number_of 2 s) (sixes at) ∙ two_more 0 s (at + 6) in
-    omega arith
-  where
-    fours : (n : ℕ) → n + 2 + 2 ≡ n + 4
-    fours n = omega arith
-
-    sixes : (n : ℕ) → n + 4 + 2 ≡ n + 6
-    sixes n = omega arith
+  pub eight_bytes :
+      number_of 8 s at
+      ≡ from_le_bytes w64
+      (get_or s at 0 ∷ get_or s (at + 1) 0 ∷ get_or s (at + 2) 0 ∷ get_or s (at + 3) 0
+      ∷ get_or s (at + 4) 0 ∷ get_or s (at + 5) 0 ∷ get_or s (at + 6) 0 ∷ get_or s (at + 7) 0 ∷ [])
+  unfolding number_of
+  eight_bytes =
+      let b = one_more 6 1 in
+      let c = one_more 5 2 in
+      let d = one_more 4 3 in
+      let e = one_more 3 4 in
+      let f = one_more 2 5 in
+      let g = one_more 1 6 in
+      let h = one_more 0 7 in
+      omega arith

@@ -6,7 +6,7 @@ ghost use Rattle.record_reader.specs.Apart.{number_of};
 ghost use Rattle.record_views.specs.Records.{ListAt, DefAt, InstructionHere, InstructionIs, DefIs};
 
 use file_format::StructHandleIndex;
-use numbers::{u16_at, wide};
+use numbers::u16_at;
 
 // The types of a list: where the first stands in the unit, and how many there are.
 #[derive(Clone, Copy)]
@@ -37,16 +37,21 @@ pub struct Instruction {
     pub count: u64,
 }
 
-// The u64 at `at`, from four u16.
+// The u64 at `at`.
 fn u64_at(s: &[u8], at: usize) -> u64
     requires { at + 7 < length s.now }
     ensures { result ≡ number_of 8 s.now at }
 {
-    let a = u16_at(s, at) as u64;
-    let b = u16_at(s, at + 2) as u64;
-    let c = u16_at(s, at + 4) as u64;
-    let d = u16_at(s, at + 6) as u64;
-    a + 65536 * (b + 65536 * (c + 65536 * d))
+    u64::from_le_bytes([
+        s[at],
+        s[at + 1],
+        s[at + 2],
+        s[at + 3],
+        s[at + 4],
+        s[at + 5],
+        s[at + 6],
+        s[at + 7],
+    ])
 }
 
 // The list of types whose count stands at `at`: a signature's, or a declared struct's fields.
@@ -56,7 +61,7 @@ pub fn type_list(s: &[u8], at: usize) -> TypeList
 {
     TypeList {
         at: at + 1,
-        count: wide(s[at]),
+        count: usize::from(s[at]),
     }
 }
 
@@ -66,16 +71,13 @@ pub fn struct_def_at(s: &[u8], at: usize) -> StructDef
     requires def_at { DefAt s.now at }
     ensures { (p : DefAt s.now at) → DefIs s.now p.def result }
 {
-    let handle = StructHandleIndex(u16_at(s, at + 1));
-    if s[at + 3] == 0 {
-        return StructDef {
-            handle: handle,
-            fields: Fields::Native,
-        };
-    }
     StructDef {
-        handle: handle,
-        fields: Fields::Declared(type_list(s, at + 4)),
+        handle: StructHandleIndex(u16_at(s, at + 1)),
+        fields: if s[at + 3] == 0 {
+            Fields::Native
+        } else {
+            Fields::Declared(type_list(s, at + 4))
+        },
     }
 }
 
@@ -85,28 +87,11 @@ fn instruction_near_end(s: &[u8], at: usize) -> Instruction
     requires { InstructionHere s.now at × (length s.now < at + 11) }
     ensures { (p : InstructionHere s.now at) → InstructionIs p result }
 {
-    let opcode = s[at];
     let left = s.len() - at;
-    if 2 < left {
-        return Instruction {
-            opcode: opcode,
-            local: s[at + 1],
-            operand: u16_at(s, at + 1),
-            count: 0,
-        };
-    }
-    if 1 < left {
-        return Instruction {
-            opcode: opcode,
-            local: s[at + 1],
-            operand: 0,
-            count: 0,
-        };
-    }
     Instruction {
-        opcode: opcode,
-        local: 0,
-        operand: 0,
+        opcode: s[at],
+        local: s.get(at + 1).copied().unwrap_or(0),
+        operand: if 2 < left { u16_at(s, at + 1) } else { 0 },
         count: 0,
     }
 }

@@ -1,9 +1,9 @@
--- A type as a reference of either kind: what `inner_at` answers, and what an answer tells of `inner` and `is_reference`. Then what the calls
+-- A type as a reference of either kind: what `inner_of` answers, and what an answer tells of `inner` and `is_reference`. Then what the calls
 -- on a popped reference and what it refers to require.
-use Rattle.std.specs.Prelude.{◌≡◌, refl, Bool, true, false, not, List, ℕ, ◌+◌, ◌≤◌, length}
+use Rattle.std.specs.Prelude.{◌≡◌, refl, Bool, true, false, not, List, ℕ, ◌+◌, ◌≤◌, length, Option, Some, None, Ok, is_some}
 use Rattle.std.proofs.Common.{sym, ap, ◌∙◌, arith}
 use Rattle.std.proofs.Math.Option.{none}
-use Rattle.definitions.specs.SignatureToken.{SignatureToken, encode}
+use Rattle.definitions.specs.SignatureToken.{SignatureToken}
 use Rattle.definitions.specs.Substitution.{inner, is_reference}
 use Rattle.definitions.specs.Places.{TypeAt}
 use Rattle.theorems.specs.Bytes.{one_type}
@@ -12,26 +12,22 @@ use Rattle.type_tests.specs.declared.Referent.TheVariants as kind
 use Rattle.signature_token.specs.Token.{token_of}
 use Rattle.signature_token.specs.Same.{Spans}
 use Rattle.type_tests.specs.Kinds.{ReferentAt, referent_of}
+use Rattle.type_stack.specs.declared.Entry.{Entry}
 use Rattle.type_stack.specs.Held.{Stacked, Here, Part}
 use Rattle.type_stack.specs.Tops.{TopOf, TopTwoOf, topped, topped_two}
-use Rattle.type_stack.specs.declared.Top.{Top}
-use Rattle.type_stack.specs.declared.Top.TheVariants.{Entry}
-use Rattle.type_stack.specs.declared.TopTwo.{TopTwo}
-use Rattle.type_stack.specs.declared.TopTwo.TheVariants.{Entries}
-use Rattle.operand_steps.specs.Operands.{operand, span, referent, referent_room, Refers, refers, refers_mutably, refers_not, inner_is}
-use Rattle.reference_steps.specs.declared.EitherReference.{EitherReference}
-use Rattle.reference_steps.specs.declared.EitherReference.TheVariants.{Inner, Value}
+use Rattle.operand_steps.specs.Operands.{operand, span, referent, referent_room, Refers, refers, refers_mutably, refers_not, inner_is, standing}
 
 -- either kind of reference taken as one
-abbrev pub either_of : Referent → EitherReference
-either_of (kind.Reference x) = Inner x
-either_of (kind.MutableReference x) = Inner x
-either_of kind.Value = Value
+abbrev pub either_of : Referent → Option ℕ
+either_of (kind.Reference x) = Some x
+either_of (kind.MutableReference x) = Some x
+either_of kind.Value = None
 
 -- r is what the type at `at` refers to
-abbrev pub InnerAt : List ℕ → ℕ → EitherReference → Type 0
+abbrev pub InnerAt : List ℕ → ℕ → Option ℕ → Type 0
 InnerAt s at r = (p : TypeAt s at) → r ≡ either_of (referent_of (token_of p.type at))
 
+-- one way of `inner_of`
 pub inner_by : {s : List ℕ} {at : ℕ} {q v : Referent} → ReferentAt s at q → q ≡ v → InnerAt s at (either_of v)
 inner_by k e p = ap either_of (sym e ∙ k p)
 
@@ -40,59 +36,55 @@ pub record RefersEither (a : List ℕ) (x l : ℕ) (t : SignatureToken) (y : ℕ
   pub mut : Bool
   pub refers : Refers mut a x l t y
 
-module _ {a : List ℕ} {x l : ℕ} {t : SignatureToken} {r : EitherReference} (k : InnerAt a x r) (h : Here a x l t) where
-  -- what `referent_at` answers
+module _ {a : List ℕ} {x l : ℕ} {t : SignatureToken} {r : Option ℕ} (k : InnerAt a x r) (h : Here a x l t) where
+  -- what `referent_of` answers
   told : ReferentAt a x (referent_of (token_of t x))
   told p = ap (λ (u : SignatureToken). referent_of (token_of u x)) (one_type t p.type h.at p.stands)
 
   is : r ≡ either_of (referent_of (token_of t x))
   is = k (operand h)
 
-  pub refers_either : {y : ℕ} → r ≡ Inner y → RefersEither a x l t y
+  pub refers_either : {y : ℕ} → r ≡ Some y → RefersEither a x l t y
   refers_either {y} e = go (referent_of (token_of t x)) refl (sym e ∙ is)
     where
-      go : (q : Referent) → referent_of (token_of t x) ≡ q → Inner y ≡ either_of q → RefersEither a x l t y
+      go : (q : Referent) → referent_of (token_of t x) ≡ q → Some y ≡ either_of q → RefersEither a x l t y
       go (kind.Reference z) f g = let n : z ≡ y = cc in record { mut = false; refers = refers told h (f ∙ ap kind.Reference n) }
       go (kind.MutableReference z) f g = let n : z ≡ y = cc in record { mut = true; refers = refers_mutably told h (f ∙ ap kind.MutableReference n) }
       go kind.Value f g = let z : ◌≡◌ {A = ℕ} 0 1 = cc in absurd (omega arith)
 
-  pub no_inner : r ≡ Value → inner t ≡ none
+  pub no_inner : r ≡ None → inner t ≡ none
   no_inner e = go (referent_of (token_of t x)) refl (sym e ∙ is)
     where
-      go : (q : Referent) → referent_of (token_of t x) ≡ q → Value ≡ either_of q → inner t ≡ none
+      go : (q : Referent) → referent_of (token_of t x) ≡ q → None ≡ either_of q → inner t ≡ none
       go (kind.Reference z) f g = let z : ◌≡◌ {A = ℕ} 0 1 = cc in absurd (omega arith)
       go (kind.MutableReference z) f g = let z : ◌≡◌ {A = ℕ} 0 1 = cc in absurd (omega arith)
       go kind.Value f g = refers_not told h f
 
 -- the same, as `is_reference` says it
-module _ {s : List ℕ} {x : ℕ} {r : EitherReference} (k : InnerAt s x r) (p : TypeAt s x) where
-  here : Here s x (length (encode p.type)) p.type
-  here = record { at = p.stands; long = refl }
-
-  pub no_reference : r ≡ Value → not (is_reference p.type) ≡ true
+module _ {s : List ℕ} {x : ℕ} {r : Option ℕ} (k : InnerAt s x r) (p : TypeAt s x) {b : Bool} where
+  pub not_reference : b ≡ is_some r → not (is_reference p.type) ≡ not b
   unfolding is_reference
-  no_reference e = rw (no_inner k here e)
-
-  pub a_reference : {y : ℕ} → r ≡ Inner y → not (is_reference p.type) ≡ false
-  unfolding is_reference
-  a_reference e = rw (inner_is (refers_either k here e).refers)
+  not_reference e = go r k e
+    where
+      go : (q : Option ℕ) → InnerAt s x q → b ≡ is_some q → not (is_reference p.type) ≡ not b
+      go (Some y) n f = rw (f, inner_is (refers_either n (standing p) refl).refers) refl
+      go None n f = rw (f, no_inner n (standing p) refl) refl
 
 -- ── what the calls on a popped reference and its referent require ──
 
-module _ {a : List ℕ} {w : ℕ} {q : Top} {x l : ℕ} (k : Stacked a w) (p : TopOf a w q) (i : q ≡ Entry x l) where
-  module _ {r : EitherReference} {y : ℕ} (n : InnerAt a x r) (e : r ≡ Inner y) where
-    pub inner_type : TypeAt a y
-    inner_type = referent (refers_either n (topped k p i).here e).refers
+module _ {a : List ℕ} {w : ℕ} {x : Entry} (k : Stacked a w) (p : TopOf a w (Ok x)) {r : Option ℕ} {y : ℕ} (n : InnerAt a x.start r) (e : r ≡ Some y) where
+  pub inner_type : TypeAt a y
+  inner_type = referent (refers_either n (topped k p).here e).refers
 
-    pub inner_room : Stacked a x × ((x ≤ y) × Part a y (x + l) × (x + l + 2 ≤ length a))
-    inner_room = let o = topped k p i in (o.under, referent_room (refers_either n o.here e).refers k o)
+  pub inner_room : (x.start ≤ y) × Part a y (x.start + x.len) × (x.start + x.len + 2 ≤ length a)
+  inner_room = let o = topped k p in referent_room (refers_either n o.here e).refers k o
 
-module _ {a : List ℕ} {w : ℕ} {q : TopTwo} {x l y m : ℕ} (k : Stacked a w) (p : TopTwoOf a w q) (i : q ≡ Entries x l y m) where
-  pub second_span : Spans a y m
-  second_span = span (topped_two k p i).1.here
+module _ {a : List ℕ} {w : ℕ} {x y : Entry} (k : Stacked a w) (p : TopTwoOf a w (Ok (x, y))) where
+  pub second_span : Spans a y.start y.len
+  second_span = span (topped_two k p).1.here
 
-  pub mutable_type : {r : Referent} {z : ℕ} → ReferentAt a x r → r ≡ kind.MutableReference z → TypeAt a z
-  mutable_type n e = referent (refers_mutably n (topped_two k p i).0.here e)
+  pub mutable_referent : {r : Referent} {z : ℕ} → ReferentAt a x.start r → r ≡ kind.MutableReference z → TypeAt a z
+  mutable_referent n e = referent (refers_mutably n (topped_two k p).0.here e)
 
 -- for `search`, which finds the looks among what was learnt
-pub ruleset references = (inner_type, second_span, mutable_type)
+pub ruleset references = (inner_by, inner_type, second_span, mutable_referent)

@@ -6,3 +6,4 @@ pub mod Ends
 pub mod Plain
 pub mod Passing
 pub mod Same
+pub mod Standing

@@ -1,6 +1,6 @@
 -- How one loop passes the types of a list and those inside them: the type at hand is passed, or what is inside it is left in its place.
-use Rattle.std.specs.Prelude.{◌≡◌, refl, List, [], ◌∷◌, ◌++◌, ℕ, ◌+◌, ◌-◌, ◌/◌, ◌%◌, ◌≤◌, ◌<◌, length}
-use Rattle.std.proofs.Common.{sym, ap, ◌∙◌, append_assoc, append-nil, arith}
+use Rattle.std.specs.Prelude.{◌≡◌, ◌⊎◌, refl, List, [], ◌∷◌, ◌++◌, ℕ, ◌+◌, ◌-◌, ◌/◌, ◌%◌, ◌≤◌, ◌<◌, length}
+use Rattle.std.proofs.Common.{inl, inr, sym, ap, ◌∙◌, append_assoc, append-nil, arith}
 use Rattle.std.proofs.Math.ListN.{length-append}
 use Rattle.definitions.specs.SignatureToken.{SignatureToken, SignatureTokens, StructInstantiation as InstantiationOf, []ᵗ, ◌∷ᵗ◌, count, encode, encode_all}
 use Rattle.definitions.specs.Places.{At, TypeAt, TypesAt, EndOfType, EndOfTypes}
@@ -96,6 +96,11 @@ module _ {s : List ℕ} {at n p k : ℕ} {r : Token} (l : 0 < k) (c : Passing s 
   pub parameter_passed : {i : ℕ} → r ≡ TypeParameter i → Passing s at n (p + 3) (k - 1)
   parameter_passed e q = left_after l (c q) (parameter_end w e) refl
 
+  -- a struct or a type parameter
+  pub index_passed : ((h : StructHandleIndex) × (r ≡ Struct h)) ⊎ ((i : ℕ) × (r ≡ TypeParameter i)) → Passing s at n (p + 3) (k - 1)
+  index_passed (inl e) = struct_passed e.1
+  index_passed (inr e) = parameter_passed e.1
+
   pub wrapped_passed : {v : Wrapper} {x : ℕ} → r ≡ Wrapped v x → Passing s at n x k
   wrapped_passed e q = wrapped_left l (c q) w e
 
@@ -112,6 +117,10 @@ module _ {s : List ℕ} {at n p k : ℕ} {r : Token} (l : 0 < k) (c : Passing s 
 
   pub parameter_within : {i : ℕ} → r ≡ TypeParameter i → TypesAt s at n → p + 3 ≤ length s
   parameter_within e q = let f = type_left l (c q) in omega (arith, parameter_end w e f, type_room f)
+
+  pub index_within : ((h : StructHandleIndex) × (r ≡ Struct h)) ⊎ ((i : ℕ) × (r ≡ TypeParameter i)) → TypesAt s at n → p + 3 ≤ length s
+  index_within (inl e) = struct_within e.1
+  index_within (inr e) = parameter_within e.1
 
   pub wrapped_less : {v : Wrapper} {x : ℕ} → r ≡ Wrapped v x → TypesAt s at n → length s - x < length s - p
   wrapped_less e q = let f = type_left l (c q) in omega (arith, (wrapped_at w f e).place, at_some f)

@@ -1,8 +1,11 @@
 -- Two types are compared by their bytes.
-use Rattle.std.specs.Prelude.{◌≡◌, refl, List, ◌++◌, Bool, true, false, ℕ, ◌+◌, ◌-◌, ◌≤◌, ◌<◌, length, take, drop, get_or}
-use Rattle.std.proofs.Common.{ap, sym, ◌∙◌, arith, below_more, length-drop, take-append-drop, ext_get_or, get_or-take, get_or-drop, length-take-le}
+use Rattle.std.specs.Prelude.{◌≡◌, refl, List, ◌++◌, Bool, true, false, ℕ, ◌+◌, ◌-◌, ◌≤◌, length, take, drop, eqb}
+use Rattle.std.specs.List.{starts_with}
+use Rattle.std.proofs.Common.{ap, sym, ◌∙◌, arith}
+use Rattle.std.proofs.lemmas.Bool.Decides.{Decides-eqb}
+use Rattle.std.proofs.lemmas.List.{take_rest}
+use Rattle.std.proofs.lemmas.Slice.Eq.{starts_is}
 use Rattle.std.proofs.Math.Decide.{ℕ_discrete}
-use Rattle.std.proofs.Math.ListN.{get_or-append}
 use Rattle.definitions.specs.SignatureToken.{SignatureToken, SignatureToken-discrete, encode, same, decided}
 use Rattle.definitions.specs.Places.{At, TypeAt}
 use Rattle.theorems.specs.AtLaws.{at_room, at_part}
@@ -59,46 +62,29 @@ same_both t u v w f g = go (same t u) refl
     go true e = same_yes v w (f (same_is t u e))
     go false e = same_no v w (λ i. let z : true ≡ false = sym (same_yes t u (g i)) ∙ e in let n : ◌≡◌ {A = ℕ} 0 1 = cc in omega arith)
 
--- ── the loop ──
-
--- the bytes of what stands at a place
-pub at_get_d : {s : List ℕ} {at : ℕ} {bs : List ℕ} → At s at bs → (i : ℕ) → i < length bs → get_or s (at + i) 0 ≡ get_or bs i 0
-at_get_d {s} {at} {bs} h i k = sym (get_or-drop at s i 0) ∙ ap (λ (l : List ℕ). get_or l i 0) h.here ∙ get_or-append bs h.rest 0 i k
+-- ── the bytes ──
 
 pub span_within : {s : List ℕ} {x l : ℕ} → Spans s x l → x + l ≤ length s
 span_within p = let e = p.long in omega (arith, at_room p.stands, encode_pos p.type)
 
--- the first i bytes are the same
-abbrev pub Alike : List ℕ → ℕ → List ℕ → ℕ → ℕ → Type 0
-Alike a x b y i = (k : ℕ) → k < i → get_or a (x + k) 0 ≡ get_or b (y + k) 0
-
-pub alike_more : (a : List ℕ) (x : ℕ) (b : List ℕ) (y i : ℕ) → Alike a x b y i → get_or a (x + i) 0 ≡ get_or b (y + i) 0 → Alike a x b y (i + 1)
-alike_more a x b y i h e = below_more (λ (k : ℕ). get_or a (x + k) 0 ≡ get_or b (y + k) 0) i h e
+-- the type that spans that part is the part
+pub spanned_part : {a : List ℕ} {x l : ℕ} (p : Spans a x l) → take (x + l - x) (drop x a) ≡ encode p.type
+spanned_part {a} {x} {l} p =
+    let e : x + l - x ≡ length (encode p.type) = let z = p.long in omega arith in
+    ap (λ (n : ℕ). take n (drop x a)) e ∙ at_part (encode p.type) p.stands
 
 module _ {a : List ℕ} {x l : ℕ} {b : List ℕ} {y : ℕ} where
-  pub same_short : length b - y < l → SameAt a x l b y false
-  same_short f p q =
-      sym (same_no p.type q.type (λ e.
-      let v = ap (λ (t : SignatureToken). length (encode t)) e in
-      let z = p.long in
-      omega (arith, at_room q.stands)))
-
-  pub same_differs : (i : ℕ) → i < l → (get_or a (x + i) 0 ≡ get_or b (y + i) 0 → ⊥) → SameAt a x l b y false
-  same_differs i k n p q =
-      sym (same_no p.type q.type (λ e.
-      let v : length (encode p.type) ≡ length (encode q.type) = ap (λ (t : SignatureToken). length (encode t)) e in
-      let z = p.long in
-      n (at_get_d p.stands i (omega arith) ∙ ap (λ (t : SignatureToken). get_or (encode t) i 0) e ∙ sym (at_get_d q.stands i (omega arith)))))
-
-  pub same_alike : {i : ℕ} → l ≤ i → l ≤ length b - y → Alike a x b y i → SameAt a x l b y true
-  same_alike {i} k f h p q =
-      let z = p.long in
-      let r : length (take l (drop x a)) ≡ l = length-take-le l (drop x a) (omega (arith, length-drop x a, span_within p)) in
-      let s : length (take l (drop y b)) ≡ l = length-take-le l (drop y b) (omega (arith, length-drop y b)) in
-      let e : take l (drop x a) ≡ take l (drop y b) = ext_get_or 0 (take l (drop x a)) (take l (drop y b)) (r ∙ sym s) (λ j g.
-      get_or-take l (drop x a) j 0 (omega arith) ∙ get_or-drop x a j 0 ∙ h j (omega arith) ∙ sym (get_or-drop y b j 0) ∙ sym (get_or-take l (drop y b) j 0 (omega arith))) in
-      let d : take l (drop x a) ≡ encode p.type = ap (λ (n : ℕ). take n (drop x a)) z ∙ at_part (encode p.type) p.stands in
-      sym (same_yes p.type q.type (one_type p.type q.type (record {
-        rest = drop l (drop y b);
-        here = sym (take-append-drop l (drop y b)) ∙ ap (λ (m : List ℕ). m ++ drop l (drop y b)) (sym e ∙ d);
-      }) q.stands))
+  -- `&b[y..]` starts with `&a[x..x + l]` where the two types are one
+  pub same_starts :
+      {r : Bool} → r ≡ starts_with eqb (take (length b - y) (drop y b)) (take (x + l - x) (drop x a)) → SameAt a x l b y r
+  same_starts {r} e p q =
+      let k = starts_is Decides-eqb (drop y b) (encode p.type) r (rw (take_rest b y, spanned_part p) at e) in
+      go r k.0 k.1
+    where
+      go : (r : Bool) → (r ≡ true → drop y b ≡ encode p.type ++ drop (length (encode p.type)) (drop y b)) →
+          ((rest : List ℕ) → drop y b ≡ encode p.type ++ rest → r ≡ true) → r ≡ same p.type q.type
+      go true f g = sym (same_yes p.type q.type (one_type p.type q.type (record { rest = drop (length (encode p.type)) (drop y b); here = f refl }) q.stands))
+      go false f g =
+          sym (same_no p.type q.type (λ i.
+          let z : false ≡ true = g q.stands.rest (q.stands.here ∙ ap (λ (t : SignatureToken). encode t ++ q.stands.rest) (sym i)) in
+          let n : ◌≡◌ {A = ℕ} 0 1 = cc in omega arith))

@@ -1,5 +1,5 @@
 -- A type taken apart at its first command, and what stands below it: the words and the laws of every walk over a type's bytes.
-use Rattle.std.specs.Prelude.{◌≡◌, List, [], ◌∷◌, ℕ, ◌+◌, ◌*◌, ◌/◌, ◌%◌, ◌≤◌, ◌<◌, length, get_or}
+use Rattle.std.specs.Prelude.{⊤, ◌≡◌, List, [], ◌∷◌, ℕ, ◌+◌, ◌*◌, ◌/◌, ◌%◌, ◌≤◌, ◌<◌, length, get_or}
 use Rattle.std.proofs.Math.Path.{refl}
 use Rattle.std.proofs.Common.{◌∙◌}
 use native.Mathlib.Omega.{arith}
@@ -45,6 +45,14 @@ token_of (ParameterOf i) at = TypeParameter i
 -- r is the type at `at`, taken apart
 abbrev pub TokenAt : List ℕ → ℕ → Token → Type 0
 TokenAt s at r = (p : TypeAt s at) → r ≡ token_of p.type at
+
+-- a count of arguments is a byte
+abbrev pub HasFew : Token → Type 0
+HasFew (StructInstantiation h n x) = n < 256
+HasFew (Leaf b) = ⊤
+HasFew (Wrapped w x) = ⊤
+HasFew (Struct h) = ⊤
+HasFew (TypeParameter i) = ⊤
 
 abbrev pub wrapped_by : Wrapper → SignatureToken → SignatureToken
 wrapped_by wrapper.Vector t = VectorOf t

@@ -1,15 +1,16 @@
-// A type taken apart at its first command, and where types end. `token_at` is the one place in the passes that takes a type apart; where the
+// A type taken apart at its first command, and where types end. `token` is the one place in the passes that takes a type apart; where the
 // commands alone tell its end, nothing is taken apart, and `type_commands` counts its bytes. The reader, which meets bytes that open no type,
 // has its own.
 #![tactic(auto)]
 
 ghost use Rattle.std.specs.Prelude.{◌≡◌};
 ghost use Rattle.definitions.specs.Places.{TypeAt, TypesAt, EndOfType, EndOfTypes};
-ghost use Rattle.signature_token.specs.Token.{shape_of, TokenAt};
+ghost use Rattle.signature_token.specs.Token.{shape_of, TokenAt, HasFew};
 ghost use Rattle.signature_token.specs.Plain.{PlainEnd};
+ghost use Rattle.signature_token.specs.Standing.{TypeAt-prop, TypesAt-prop};
 
 use file_format::StructHandleIndex;
-use numbers::{u16_at, wide, widest};
+use numbers::u16_at;
 use type_commands::{plain_width, wraps};
 
 // Commands of types, as document 01's table of them has them: those that steps name.
@@ -87,86 +88,111 @@ fn shape_of(command: u8) -> Shape
     Shape::Leaf
 }
 
-// The type at `at`, taken apart.
-pub fn token_at(s: &[u8], at: usize) -> Token
-    requires { TypeAt s.now at }
-    ensures { TokenAt s.now at result }
-{
-    let command = s[at];
-    match shape_of(command) {
-        Shape::Leaf => Token::Leaf(command),
-        Shape::Vector => Token::Wrapped(Wrapper::Vector, at + 1),
-        Shape::Struct => Token::Struct(StructHandleIndex(u16_at(s, at + 1))),
-        Shape::StructInstantiation => Token::StructInstantiation(
-            StructHandleIndex(u16_at(s, at + 1)),
-            wide(s[at + 3]),
-            at + 4,
-        ),
-        Shape::Reference => Token::Wrapped(Wrapper::Reference, at + 1),
-        Shape::MutableReference => Token::Wrapped(Wrapper::MutableReference, at + 1),
-        Shape::TypeParameter => Token::TypeParameter(widest(u16_at(s, at + 1))),
-    }
+// A type that stands at a place of some bytes: a unit's, or the area's. Where it ends is not kept, since bytes begin with one type at most.
+#[derive(Clone, Copy)]
+pub struct TypeRef<'a> {
+    pub bytes: &'a [u8],
+    pub at: usize,
+    pub ghost stands: { TypeAt bytes.now at } by { TypeAt-prop bytes.now at },
 }
 
-// The end of the type at `at`, if it is plain or one command stands around a plain one, and otherwise 0. Which of these types it is decides
-// nothing but what is added.
-fn plain_end(s: &[u8], at: usize) -> usize
-    requires { TypeAt s.now at }
-    ensures { PlainEnd s.now at result }
-{
-    let p = at + wraps(s[at]);
-    let width = plain_width(s[p]);
-    if width == 0 {
-        return 0;
-    }
-    p + width
+// Types that stand there one after the other.
+#[derive(Clone, Copy)]
+pub struct TypeList<'a> {
+    pub bytes: &'a [u8],
+    pub at: usize,
+    pub count: usize,
+    pub ghost stand: { TypesAt bytes.now at count } by { TypesAt-prop bytes.now at count },
 }
 
-// The end of the type at `at`. Leaves are told by one decision, since in code that repeats itself that is foreseen; the others that are plain or
-// wrapped once by sums; and only what is left is walked.
-pub fn end_of_type(s: &[u8], at: usize) -> usize
-    requires { TypeAt s.now at }
-    ensures { EndOfType s.now at result }
-{
-    if s[at] < VECTOR {
-        return at + 1;
-    }
-    let end = plain_end(s, at);
-    if 0 < end {
-        return end;
-    }
-    end_of_types(s, at, 1)
-}
-
-// The end of the n types at `at`. A type inside another is passed as one more of those that are left, so that nothing calls itself.
-pub fn end_of_types(s: &[u8], at: usize, n: usize) -> usize
-    requires { TypesAt s.now at n }
-    ensures { EndOfTypes s.now at n result }
-{
-    let mut p = at;
-    let mut left = n;
-    while 0 < left {
-        match token_at(s, p) {
-            Token::Leaf(_) => {
-                p += 1;
-                left -= 1;
-            }
-            Token::Wrapped(_, inner) => {
-                p = inner;
-            }
-            Token::Struct(_) => {
-                p += 3;
-                left -= 1;
-            }
-            Token::StructInstantiation(_, k, first) => {
-                p = first;
-                left = left - 1 + k;
-            }
-            Token::TypeParameter(_) => {
-                p += 3;
-                left -= 1;
-            }
+impl TypeRef<'_> {
+    // The type, taken apart.
+    pub fn token(self) -> Token
+        ensures is { TokenAt self.entry.bytes.now self.entry.at result }
+        ensures few { HasFew result }
+    {
+        let s = self.bytes;
+        let at = self.at;
+        let command = s[at];
+        match shape_of(command) {
+            Shape::Leaf => Token::Leaf(command),
+            Shape::Vector => Token::Wrapped(Wrapper::Vector, at + 1),
+            Shape::Struct => Token::Struct(StructHandleIndex(u16_at(s, at + 1))),
+            Shape::StructInstantiation => Token::StructInstantiation(
+                StructHandleIndex(u16_at(s, at + 1)),
+                usize::from(s[at + 3]),
+                at + 4,
+            ),
+            Shape::Reference => Token::Wrapped(Wrapper::Reference, at + 1),
+            Shape::MutableReference => Token::Wrapped(Wrapper::MutableReference, at + 1),
+            Shape::TypeParameter => Token::TypeParameter(usize::from(u16_at(s, at + 1))),
         }
     }
-    p
+
+    // Its end, if it is plain or one command stands around a plain one, and otherwise 0. Which of these types it is decides nothing but what
+    // is added.
+    fn plain_end(self) -> usize
+        ensures { PlainEnd self.entry.bytes.now self.entry.at result }
+    {
+        let s = self.bytes;
+        let p = self.at + wraps(s[self.at]);
+        let width = plain_width(s[p]);
+        if width == 0 {
+            return 0;
+        }
+        p + width
+    }
+
+    // Its end. Leaves are told by one decision, since in code that repeats itself that is foreseen; the others that are plain or wrapped once by
+    // sums; and only what is left is walked.
+    pub fn end(self) -> usize
+        ensures { EndOfType self.entry.bytes.now self.entry.at result }
+    {
+        let s = self.bytes;
+        let at = self.at;
+        if s[at] < VECTOR {
+            return at + 1;
+        }
+        let end = self.plain_end();
+        if 0 < end {
+            return end;
+        }
+        TypeList {
+            bytes: s,
+            at,
+            count: 1,
+        }
+        .end()
+    }
+}
+
+impl TypeList<'_> {
+    // The end of the last. A type inside another is passed as one more of those that are left, so that nothing calls itself.
+    pub fn end(self) -> usize
+        ensures { EndOfTypes self.entry.bytes.now self.entry.at self.entry.count result }
+    {
+        let s = self.bytes;
+        let mut p = self.at;
+        let mut left = self.count;
+        while 0 < left {
+            match (TypeRef { bytes: s, at: p }).token() {
+                Token::Leaf(_) => {
+                    p += 1;
+                    left -= 1;
+                }
+                Token::Wrapped(_, inner) => {
+                    p = inner;
+                }
+                Token::StructInstantiation(_, k, first) => {
+                    p = first;
+                    left = left - 1 + k;
+                }
+                Token::Struct(_) | Token::TypeParameter(_) => {
+                    p += 3;
+                    left -= 1;
+                }
+            }
+        }
+        p
+    }
 }

@@ -21,3 +21,5 @@ module _ (h p q : ℕ) where
   pub moves : p ≤ h → (h - p) + q ≤ 2 ^ 64 - 1 → ok ((h - p) + q) ≡ height_after h (record { pops = p; pushes = q })
   unfolding height_after require
   moves l m = rw (le-leb p h, le-leb _ (2 ^ 64 - 1) m)
+
+pub ruleset heights = (sinks, overflows, moves)

@@ -1,2 +1,1 @@
 -- The modules of this crate's specs.
-pub mod Answers

@@ -8,7 +8,7 @@ use Rattle.definitions.specs.Machine.{Step, ◌>>=◌, ◌>>◌, look, push, pop
 use Rattle.record_views.specs.declared.TypeList.{TypeList}
 use Rattle.record_views.specs.Records.{TypesIn}
 use Rattle.type_stack.specs.Stepping.{StepsTo}
-use Rattle.type_stack.specs.declared.Stepped.{Stepped}
+use Rattle.type_stack.specs.Answers.{Stepped}
 
 -- `pack` of the fields ts, with the type arguments as
 unfoldable pub pack_fields : ℕ → Signature → Signature → Step

@@ -1,6 +1,6 @@
 -- How one loop counts the bytes of the types of a list whose parameters are replaced: at each turn the answer for the whole list is the answer for
 -- what is left of it, after the bytes that are counted.
-use Rattle.std.specs.Prelude.{◌≡◌, refl, List, ℕ, ◌+◌, ◌-◌, ◌≤◌, ◌<◌, length, get_or}
+use Rattle.std.specs.Prelude.{◌≡◌, refl, Ok, Err, List, ℕ, ◌+◌, ◌-◌, ◌≤◌, ◌<◌, length, get_or}
 use Rattle.std.proofs.Math.Path.{sym, ap}
 use Rattle.std.proofs.Common.{◌∙◌, arith}
 use Rattle.definitions.specs.SignatureToken.{SignatureTokens, Signature, encode_all}
@@ -9,16 +9,18 @@ use Rattle.file_format.specs.declared.StructHandleIndex.{StructHandleIndex}
 use Rattle.signature_token.specs.declared.Wrapper.{Wrapper}
 use Rattle.signature_token.specs.declared.Token.{Token}
 use Rattle.signature_token.specs.declared.Token.TheVariants.{Leaf, Wrapped, Struct, StructInstantiation, TypeParameter}
+use Rattle.status.specs.declared.StatusCode.TheVariants.{OUT_OF_TABLE}
 use Rattle.signature_token.specs.Token.{TokenAt}
 use Rattle.signature_token.specs.TokenLaws.{wrapped_at, instantiation_at, none_is}
 use Rattle.signature_token.specs.Lists.{Left, left_done}
 use Rattle.signature_token.specs.Ends.{type_room, leaf_end, struct_end}
 use Rattle.signature_token.specs.Passing.{Passing}
-use Rattle.byte_parts.specs.Bytes.{part_long}
-use Rattle.substitution.specs.declared.Size.TheVariants.{Bytes, Past}
-use Rattle.substitution.specs.Instantiate.{Arguments, filled_all, filled_none, argument_is}
+use Rattle.signature_token.specs.declared.TypeRef.{TypeRef}
+use Rattle.type_places.specs.Arguments.{Arguments, IsPlaced}
+use Rattle.substitution.specs.Bytes.{part_long}
+use Rattle.substitution.specs.Instantiate.{filled_all, filled_none, argument_is}
 use Rattle.substitution.specs.Opening.{Opened, first, leaf_opened, struct_opened, argument_opened, argument_none, inner_opened, arguments_opened}
-use Rattle.substitution.specs.Size.{size_from, Grown, SizesAt, ArgumentSize, size_after}
+use Rattle.substitution.specs.Size.{size, size_from, Grown, SizesAt, ArgumentSize, size_after}
 
 -- of the types ts at `at`, k types at p are left, and len bytes are counted
 pub record Owing (ty : List ℕ) (at : ℕ) (ts : SignatureTokens) (subst : Signature) (p k len : ℕ) : Type 0 where
@@ -41,13 +43,13 @@ module _ {ty : List ℕ} {at n : ℕ} {args places : List ℕ} {p k len : ℕ} (
   abbrev pub passing : Arguments args places → Passing ty at n p k
   passing a q = (c.is q a).left
 
-  pub counted_done : k ≡ 0 → SizesAt ty at n args places (Bytes p len)
+  pub counted_done : k ≡ 0 → SizesAt ty at n args places (Ok (size p len))
   unfolding size_from
   counted_done e = record {
     is = λ q a.
         let o = c.is q a in
         let none = none_is o.left.others (o.left.counted ∙ e) in
-        sym (o.same ∙ rw (none, filled_none a.subst) (rw (← left_done e o.left) (let s = c.small in ap (Bytes p) (omega arith))));
+        sym (o.same ∙ rw (none, filled_none a.subst) (rw (← left_done e o.left) (let s = c.small in ap (λ (m : ℕ). Ok (size p m)) (omega arith))));
   }
 
 -- ── a turn of the loop ──
@@ -79,16 +81,17 @@ module _ {ty : List ℕ} {at n : ℕ} {args places : List ℕ} {p k len : ℕ} (
         owing_on o (struct_opened l o.left a.subst w e) (part_long ty p 3 (omega (arith, struct_end w e t, type_room t))) g;
   }
 
-  pub argument_counted : {i x : ℕ} → r ≡ TypeParameter i → i < length places → Arguments args places → ArgumentSize args (get_or places i 0) len x → Counted ty at n args places (p + 3) (k - 1) x
-  argument_counted {i} e within a₀ g = record {
-    small = let z = argument_is i within a₀.standing in omega (arith, g.is (record { type = z.type; stands = z.stands }));
+  pub argument_counted : {i x : ℕ} {t : TypeRef} → r ≡ TypeParameter i → IsPlaced args places i t → ArgumentSize t.bytes.now t.at len x → Counted ty at n args places (p + 3) (k - 1) x
+  argument_counted {i} {x} {t} e found size = record {
+    small = omega (arith, size.is t.stands);
     is = λ q a.
         let o = c.is q a in
-        let z = argument_is i within a.standing in
+        let z = argument_is i found.within a.standing in
+        let g : ArgumentSize args (get_or places i 0) len x = rw (found.bytes, found.place) at size in
         owing_on o (argument_opened l o.left a.subst w e z) refl (record { is = g.is (record { type = z.type; stands = z.stands }) });
   }
 
-  pub argument_missing : {i : ℕ} → r ≡ TypeParameter i → length places ≤ i → SizesAt ty at n args places Past
+  pub argument_missing : {i : ℕ} → r ≡ TypeParameter i → length places ≤ i → SizesAt ty at n args places (Err OUT_OF_TABLE)
   unfolding size_from
   argument_missing e past = record {
     is = λ q a. let o = c.is q a in sym (rw (argument_none l o.left a.subst w e past a.standing) at o.same);

@@ -17,8 +17,10 @@ use Rattle.signature_token.specs.Token.{TokenAt}
 use Rattle.signature_token.specs.TokenLaws.{leaf_at, leaf_long, wrapped_at, struct_at, instantiation_at, none_is}
 use Rattle.signature_token.specs.Lists.{Rest, next_is, rest_next}
 use Rattle.signature_token.specs.Ends.{type_room}
-use Rattle.byte_parts.specs.Bytes.{part_long, Fits}
-use Rattle.substitution.specs.Instantiate.{Arguments, filled, filled_all, after, after_nil, after_after, after_ok, filled_none, filled_more, leaf_filled, struct_filled, wrapped_filled, instantiation_filled, parameter_filled, Replaced, argument_of}
+use Rattle.signature_token.specs.declared.TypeRef.{TypeRef}
+use Rattle.type_places.specs.Arguments.{Arguments, IsPlaced}
+use Rattle.substitution.specs.Bytes.{part_long, Fits}
+use Rattle.substitution.specs.Instantiate.{filled, filled_all, after, after_nil, after_after, after_ok, filled_none, filled_more, leaf_filled, struct_filled, wrapped_filled, instantiation_filled, parameter_filled, Replaced, argument_of}
 
 -- ── the words ──
 
@@ -125,6 +127,10 @@ module _ {ty : List ℕ} {at : ℕ} {r : Token} (w : TokenAt ty at r) {args plac
 pub record ArgumentRoom (args : List ℕ) (from w room : ℕ) : Type 0 where
   pub type : TypeAt args from
   pub fits : w + length (encode type.type) ≤ room
+
+-- an argument by its place
+pub placed_room : {args places : List ℕ} {i w room : ℕ} {t : TypeRef} → IsPlaced args places i t → ArgumentRoom args (get_or places i 0) w room → ArgumentRoom t.bytes.now t.at w room
+placed_room p m = rw (p.bytes, p.place) m
 
 -- the same, where the argument's end is found
 pub argument_fits : {args : List ℕ} {from w room x : ℕ} → ArgumentRoom args from w room → EndOfType args from x → Fits args from (x - from) w room

@@ -4,6 +4,7 @@ use Rattle.std.specs.Prelude.{◌≡◌, refl, ℕ, zero, suc, ◌/◌, ◌%◌,
 use Rattle.std.proofs.Common.{sym, ◌∙◌, arith}
 use Rattle.std.proofs.Math.Path.{ap}
 use mathlib.Core.List.{List, [], ◌∷◌, ◌++◌, append_assoc, append-nil}
+use Rattle.status.specs.declared.StatusCode.{StatusCode}
 use Rattle.status.specs.declared.StatusCode.TheVariants.{OUT_OF_TABLE}
 use Rattle.definitions.specs.Result.{Result, ok, err, ◌>>?◌, at as nth}
 use Rattle.definitions.specs.SignatureToken.{SignatureToken, SignatureTokens, Signature, Vector, Struct as StructOf, StructInstantiation as InstantiationOf, Reference, MutableReference, []ᵗ, ◌∷ᵗ◌, count, encode, encode_all}
@@ -21,11 +22,6 @@ use Rattle.signature_token.specs.Passing.{before}
 use Rattle.signature_token.specs.TokenLaws.{IsLeaf, is_bool, is_u8, is_u64, is_u128, is_address, is_signer, leaf_long, leaf_at, wrapped_at, struct_at, instantiation_at, parameter_at}
 
 -- ── the words ──
-
--- the types that stand at the places: those that take the parameters' places
-pub record Arguments (args places : List ℕ) : Type 0 where
-  pub subst : Signature
-  pub standing : Standing args places subst
 
 -- the bytes of what `instantiate` makes of a type
 unfoldable pub filled : SignatureToken → Signature → Result (List ℕ)
@@ -257,3 +253,12 @@ instantiated t subst {bytes} e = go (instantiate t subst) e
     go : (r : Result SignatureToken) → (r >>? λ u. ok (encode u)) ≡ ok bytes → Instantiated r bytes
     go (ok u) k = record { type = u; here = refl; is = cc }
     go (err z) k = let x : ◌≡◌ {A = ℕ} 0 1 = cc in absurd (omega arith)
+
+-- nothing is made of a type whose bytes are refused
+pub not_instantiated : (t : SignatureToken) (subst : Signature) {y : StatusCode} → filled t subst ≡ err y → instantiate t subst ≡ err y
+unfolding filled ◌>>?◌
+not_instantiated t subst {y} e = go (instantiate t subst) e
+  where
+    go : (r : Result SignatureToken) → (r >>? λ u. ok (encode u)) ≡ err y → r ≡ err y
+    go (ok u) k = absurd cc
+    go (err z) k = cc

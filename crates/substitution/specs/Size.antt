@@ -1,6 +1,6 @@
 -- How many bytes a type has whose parameters are replaced. The count stands still once it is over 65,535, the longest area, while the
 -- numbers of the parameters are tested to the end.
-use Rattle.std.specs.Prelude.{◌≡◌, refl, List, ℕ, ◌+◌, ◌-◌, ◌≤◌, ◌<◌, min, length, get_or}
+use Rattle.std.specs.Prelude.{◌≡◌, refl, Result as Answer, Ok, Err, List, ℕ, ◌+◌, ◌-◌, ◌≤◌, min, length}
 use Rattle.std.proofs.Common.{ap, ap₂, ◌∙◌, append-nil, arith, length-append}
 use Rattle.status.specs.declared.StatusCode.{StatusCode}
 use Rattle.definitions.specs.Result.{Result, ok, err, ◌>>?◌}
@@ -12,9 +12,9 @@ use Rattle.signature_token.specs.Token.{TokenAt}
 use Rattle.signature_token.specs.Ends.{type_room, leaf_end}
 use Rattle.signature_token.specs.Passing.{one_type}
 use Rattle.substitution.specs.declared.Size.{Size}
-use Rattle.substitution.specs.declared.Size.TheVariants.{Bytes, Past}
-use Rattle.byte_parts.specs.Bytes.{part_long}
-use Rattle.substitution.specs.Instantiate.{Arguments, filled, filled_all, after, leaf_filled, filled_one, argument_is}
+use Rattle.type_places.specs.Arguments.{Arguments}
+use Rattle.substitution.specs.Bytes.{part_long}
+use Rattle.substitution.specs.Instantiate.{filled, filled_all, after, leaf_filled, filled_one}
 use Rattle.substitution.specs.Filling.{Filling, Room}
 
 -- ── the words ──
@@ -23,21 +23,24 @@ use Rattle.substitution.specs.Filling.{Filling, Room}
 abbrev pub capped : ℕ → ℕ
 capped n = min n 65536
 
+abbrev pub size : ℕ → ℕ → Size
+size next len = record { next = next; len = len }
+
 -- the answer for a type that ends at `next` and gives these bytes, after len bytes
-unfoldable pub size_from : ℕ → ℕ → Result (List ℕ) → Size
-size_from len next (ok bs) = Bytes next (capped (len + length bs))
-size_from len next (err status) = Past
+unfoldable pub size_from : ℕ → ℕ → Result (List ℕ) → Answer Size StatusCode
+size_from len next (ok bs) = Ok (size next (capped (len + length bs)))
+size_from len next (err status) = Err status
 
 -- r is len with `more` bytes added
 pub record Grown (len more r : ℕ) : Type 0 where
   pub is : r ≡ capped (len + more)
 
 -- r is the size of the type at `at` of ty with the arguments in its parameters' places
-pub record SizeAt (ty : List ℕ) (at : ℕ) (args places : List ℕ) (r : Size) : Type 0 where
+pub record SizeAt (ty : List ℕ) (at : ℕ) (args places : List ℕ) (r : Answer Size StatusCode) : Type 0 where
   pub is : (p : TypeAt ty at) (a : Arguments args places) → r ≡ size_from 0 (at + length (encode p.type)) (filled p.type a.subst)
 
 -- the same of n types
-pub record SizesAt (ty : List ℕ) (at n : ℕ) (args places : List ℕ) (r : Size) : Type 0 where
+pub record SizesAt (ty : List ℕ) (at n : ℕ) (args places : List ℕ) (r : Answer Size StatusCode) : Type 0 where
   pub is : (q : TypesAt ty at n) (a : Arguments args places) → r ≡ size_from 0 (at + length (encode_all q.types)) (filled_all q.types a.subst)
 
 -- the same of the argument at `from`
@@ -46,39 +49,35 @@ pub record ArgumentSize (args : List ℕ) (from len r : ℕ) : Type 0 where
 
 -- ── what an answer tells ──
 
-pub record Sized (len e : ℕ) (r : Result (List ℕ)) (next more : ℕ) : Type 0 where
+pub record Sized (len e : ℕ) (x : Result (List ℕ)) (r : Size) : Type 0 where
   pub bytes : List ℕ
-  pub here : r ≡ ok bytes
-  pub ends : next ≡ e
-  pub long : more ≡ capped (len + length bytes)
+  pub here : x ≡ ok bytes
+  pub ends : r.next ≡ e
+  pub long : r.len ≡ capped (len + length bytes)
 
-pub sized : (len e : ℕ) (r : Result (List ℕ)) {next more : ℕ} → Bytes next more ≡ size_from len e r → Sized len e r next more
+pub sized : (len e : ℕ) (x : Result (List ℕ)) {r : Size} → Ok r ≡ size_from len e x → Sized len e x r
 unfolding size_from
-sized len e (ok bs) k = record { bytes = bs; here = refl; ends = cc; long = cc }
-sized len e (err z) k = let x : ◌≡◌ {A = ℕ} 0 1 = cc in absurd (omega arith)
+sized len e (ok bs) {r} k = let z : r ≡ size e (capped (len + length bs)) = cc in rw z (record { bytes = bs; here = refl; ends = refl; long = refl })
+sized len e (err z) k = absurd cc
 
-pub record Refused (r : Result (List ℕ)) : Type 0 where
-  pub status : StatusCode
-  pub here : r ≡ err status
-
-pub past : (len e : ℕ) (r : Result (List ℕ)) → Past ≡ size_from len e r → Refused r
+pub not_sized : (len e : ℕ) (x : Result (List ℕ)) {status : StatusCode} → Err status ≡ size_from len e x → x ≡ err status
 unfolding size_from
-past len e (ok bs) k = let x : ◌≡◌ {A = ℕ} 0 1 = cc in absurd (omega arith)
-past len e (err z) k = record { status = z; here = refl }
+not_sized len e (ok bs) k = absurd cc
+not_sized len e (err z) k = cc
 
-module _ {ty : List ℕ} {at : ℕ} {args places : List ℕ} {next len : ℕ} (s : SizeAt ty at args places (Bytes next len)) (p : TypeAt ty at) (a : Arguments args places) where
-  pub was : Sized 0 (at + length (encode p.type)) (filled p.type a.subst) next len
+module _ {ty : List ℕ} {at : ℕ} {args places : List ℕ} {r : Size} (s : SizeAt ty at args places (Ok r)) (p : TypeAt ty at) (a : Arguments args places) where
+  pub was : Sized 0 (at + length (encode p.type)) (filled p.type a.subst) r
   was = sized 0 (at + length (encode p.type)) (filled p.type a.subst) (s.is p a)
 
   -- a size is that of bytes which are there
   abbrev pub size_filling : Filling ty at args places
   size_filling = record { from = p; list = a; bytes = was.bytes; is = was.here }
 
-  pub size_long : len ≡ capped (length size_filling.bytes)
+  pub size_long : r.len ≡ capped (length size_filling.bytes)
   size_long = omega (arith, was.long)
 
   -- and which have room where it has
-  pub size_room : {w room : ℕ} → w + len ≤ room → room ≤ 65535 → Room ty at args places w room
+  pub size_room : {w room : ℕ} → w + r.len ≤ room → room ≤ 65535 → Room ty at args places w room
   size_room l k = record { filling = size_filling; fits = omega (arith, size_long) }
 
 -- ── bytes in front of others ──
@@ -87,13 +86,13 @@ module _ {ty : List ℕ} {at : ℕ} {args places : List ℕ} {next len : ℕ} (s
 pub size_after :
     {k len x : ℕ} (e : ℕ) (bs : List ℕ) (r : Result (List ℕ)) → length bs ≡ k → Grown len k x → size_from x e r ≡ size_from len e (after bs r)
 unfolding size_from after ◌>>?◌
-size_after {k} {len} {x} e bs (ok cs) l g = let h = g.is in ap (Bytes e) (omega (arith, length-append bs cs))
+size_after {k} {len} {x} e bs (ok cs) l g = let h = g.is in ap (λ (n : ℕ). Ok (size e n)) (omega (arith, length-append bs cs))
 size_after e bs (err z) l g = refl
 
 -- ── one type ──
 
 -- a leaf is one byte
-pub leaf_alone : {ty : List ℕ} {at : ℕ} {r : Token} {args places : List ℕ} {b : ℕ} → TokenAt ty at r → r ≡ Leaf b → SizeAt ty at args places (Bytes (at + 1) 1)
+pub leaf_alone : {ty : List ℕ} {at : ℕ} {r : Token} {args places : List ℕ} {b : ℕ} → TokenAt ty at r → r ≡ Leaf b → SizeAt ty at args places (Ok (size (at + 1) 1))
 unfolding size_from
 leaf_alone {ty} {at} w e = record {
   is = λ p a.
@@ -102,7 +101,7 @@ leaf_alone {ty} {at} w e = record {
 }
 
 -- a list of one type
-pub one_size : {ty : List ℕ} {at : ℕ} {args places : List ℕ} {r : Size} → SizesAt ty at 1 args places r → SizeAt ty at args places r
+pub one_size : {ty : List ℕ} {at : ℕ} {args places : List ℕ} {r : Answer Size StatusCode} → SizesAt ty at 1 args places r → SizeAt ty at args places r
 unfolding one_type encode
 one_size {at = at} f = record {
   is = λ p a.
@@ -114,6 +113,3 @@ one_size {at = at} f = record {
 
 pub argument_added : {args : List ℕ} {from len e x : ℕ} → EndOfType args from e → Grown len (e - from) x → ArgumentSize args from len x
 argument_added f g = record { is = λ p. let h = g.is in omega (arith, f p) }
-
-pub argument_type : {args places : List ℕ} {i : ℕ} → i < length places → Arguments args places → TypeAt args (get_or places i 0)
-argument_type {i = i} l a = let k = argument_is i l a.standing in record { type = k.type; stands = k.stands }

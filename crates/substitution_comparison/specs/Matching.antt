@@ -1,6 +1,6 @@
 -- How one loop compares bytes that stand elsewhere with those of a type whose parameters are replaced: at each turn some of them are matched, and what
 -- is left of the type gives the others.
-use Rattle.std.specs.Prelude.{◌≡◌, refl, List, [], ◌++◌, Bool, true, false, ℕ, ◌+◌, ◌-◌, ◌≤◌, ◌<◌, length, take, drop, get_or}
+use Rattle.std.specs.Prelude.{◌≡◌, refl, Option, Some, None, List, [], ◌++◌, Bool, true, false, ℕ, ◌+◌, ◌-◌, ◌≤◌, ◌<◌, length, take, drop, get_or}
 use Rattle.std.proofs.Common.{sym, ◌∙◌, append-nil, arith, length-append}
 use Rattle.std.proofs.Math.Path.{ap}
 use Rattle.definitions.specs.Result.{Result, ok, ◌>>?◌}
@@ -16,12 +16,12 @@ use Rattle.signature_token.specs.Token.{TokenAt, at_some}
 use Rattle.signature_token.specs.TokenLaws.{wrapped_at, instantiation_at, none_is}
 use Rattle.signature_token.specs.Lists.{Left, type_left}
 use Rattle.signature_token.specs.Passing.{one_type}
-use Rattle.byte_parts.specs.Bytes.{Tells, SameBytes, at_append, part_long}
-use Rattle.substitution.specs.Instantiate.{Arguments, filled, filled_all, filled_one, filled_none, after, after_nil, after_after, after_ok, argument_is, instantiated}
-use Rattle.substitution.specs.Size.{argument_type}
+use Rattle.signature_token.specs.declared.TypeRef.{TypeRef}
+use Rattle.type_places.specs.Arguments.{Arguments, IsPlaced}
+use Rattle.substitution.specs.Bytes.{Tells, at_append}
+use Rattle.substitution.specs.Instantiate.{filled, filled_all, filled_one, filled_none, after, after_nil, after_after, after_ok, argument_is, instantiated}
 use Rattle.substitution.specs.Opening.{Opened, leaf_opened, struct_opened, argument_opened, argument_none, inner_opened, arguments_opened}
 use Rattle.substitution_comparison.specs.declared.Match.{Match}
-use Rattle.substitution_comparison.specs.declared.Match.TheVariants.{Upto, No}
 
 -- ── the words ──
 
@@ -31,15 +31,14 @@ pub record Reaches (s : List ℕ) (e : ℕ) (bs : List ℕ) (c : ℕ) : Type 0 w
   pub within : c ≤ length s
   pub stands : At s e bs
 
--- r says whether bs stand at e of s; it hands on x and j
-pub record PartMatched (s : List ℕ) (e : ℕ) (bs : List ℕ) (x j : ℕ) (r : Match) : Type 0 where
-  pub yes : (c y k : ℕ) → r ≡ Upto c y k → Reaches s e bs c × (y ≡ x) × (k ≡ j)
-  pub no : r ≡ No → At s e bs → ⊥
+-- r is the match of bs, if they stand at e of s; it hands on x and j
+pub record PartMatched (s : List ℕ) (e : ℕ) (bs : List ℕ) (x j : ℕ) (r : Option Match) : Type 0 where
+  pub yes : (m : Match) → r ≡ Some m → Reaches s e bs m.reached × (m.next ≡ x) × (m.left ≡ j)
+  pub no : r ≡ None → At s e bs → ⊥
 
--- the same of the argument that takes the place of parameter i, or there is none
-pub data ArgumentMatched (s : List ℕ) (e : ℕ) (args places : List ℕ) (i x j : ℕ) : Match → Type 0 where
-  within : {r : Match} → i < length places → ((p : TypeAt args (get_or places i 0)) → PartMatched s e (encode p.type) x j r) → ArgumentMatched s e args places i x j r
-  past : length places ≤ i → ArgumentMatched s e args places i x j No
+-- the same of the argument at `from`
+pub record ArgumentMatched (s : List ℕ) (e : ℕ) (args : List ℕ) (from x j : ℕ) (r : Option Match) : Type 0 where
+  pub is : (p : TypeAt args from) → PartMatched s e (encode p.type) x j r
 
 -- the k types at p give bytes that stand at e and end at c, and then what the j types at y give
 pub record Turned (s : List ℕ) (e : ℕ) (ty : List ℕ) (p : ℕ) (ts : SignatureTokens) (subst : Signature) (c y j : ℕ) : Type 0 where
@@ -53,9 +52,9 @@ pub record Turned (s : List ℕ) (e : ℕ) (ty : List ℕ) (p : ℕ) (ts : Signa
 abbrev Differing : List ℕ → ℕ → SignatureTokens → Signature → Type 0
 Differing s e ts subst = (cs : List ℕ) → filled_all ts subst ≡ ok cs → At s e cs → ⊥
 
-pub record FirstMatched (s : List ℕ) (e : ℕ) (ty : List ℕ) (p k : ℕ) (args places : List ℕ) (r : Match) : Type 0 where
-  pub yes : (c y j : ℕ) → r ≡ Upto c y j → (q : TypesAt ty p k) (a : Arguments args places) → Turned s e ty p q.types a.subst c y j
-  pub no : r ≡ No → (q : TypesAt ty p k) (a : Arguments args places) → Differing s e q.types a.subst
+pub record FirstMatched (s : List ℕ) (e : ℕ) (ty : List ℕ) (p k : ℕ) (args places : List ℕ) (r : Option Match) : Type 0 where
+  pub yes : (m : Match) → r ≡ Some m → (q : TypesAt ty p k) (a : Arguments args places) → Turned s e ty p q.types a.subst m.reached m.next m.left
+  pub no : r ≡ None → (q : TypesAt ty p k) (a : Arguments args places) → Differing s e q.types a.subst
 
 -- r says whether the type at x of s has the bytes of what is made of the type at `at` of ty
 pub record SameFilled (s : List ℕ) (x : ℕ) (ty : List ℕ) (at : ℕ) (args places : List ℕ) (r : Bool) : Type 0 where
@@ -63,39 +62,31 @@ pub record SameFilled (s : List ℕ) (x : ℕ) (ty : List ℕ) (at : ℕ) (args 
 
 -- ── a part ──
 
-module _ {s : List ℕ} {e : ℕ} (b : List ℕ) (y : ℕ) {n x j : ℕ} (l : n ≤ length b - y) where
-  pub part_yes : SameBytes s e b y n true → e ≤ length s → n ≤ length s - e → PartMatched s e (take n (drop y b)) x j (Upto (e + n) x j)
-  part_yes h o f = record {
-    yes = λ c y' k z.
-        let i : e + n ≡ c = cc in
-        let i₁ : x ≡ y' = cc in
-        let i₂ : j ≡ k = cc in
-        (record { reached = omega (arith, part_long b y n l); within = omega arith; stands = h.tells }, sym i₁, sym i₂);
-    no = λ z. let i : ◌≡◌ {A = ℕ} 0 1 = cc in absurd (omega arith);
+abbrev match_to : ℕ → ℕ → ℕ → Match
+match_to c y k = record { reached = c; next = y; left = k }
+
+module _ {s : List ℕ} {e : ℕ} {bs : List ℕ} {x j : ℕ} where
+  pub part_yes : Tells true (At s e bs) → e ≤ length s → PartMatched s e bs x j (Some (match_to (e + length bs) x j))
+  part_yes h o = record {
+    yes = λ m z.
+        let i : match_to (e + length bs) x j ≡ m = cc in
+        rw (← i) (record { reached = refl; within = omega (arith, at_room h); stands = h }, refl, refl);
+    no = λ z. absurd cc;
   }
 
-  pub part_no : SameBytes s e b y n false → PartMatched s e (take n (drop y b)) x j No
-  part_no h = record { yes = λ c y' k z. let i : ◌≡◌ {A = ℕ} 0 1 = cc in absurd (omega arith); no = λ z stands. h.tells stands }
-
-  pub part_over : length s - e < n → PartMatched s e (take n (drop y b)) x j No
-  part_over f = record {
-    yes = λ c y' k z. let i : ◌≡◌ {A = ℕ} 0 1 = cc in absurd (omega arith);
-    no = λ z stands. omega (arith, part_long b y n l, at_room stands);
-  }
+  pub part_no : Tells false (At s e bs) → PartMatched s e bs x j None
+  part_no h = record { yes = λ m z. absurd cc; no = λ z. h }
 
 -- ── an argument ──
 
-module _ {args places : List ℕ} {i from : ℕ} (e : from ≡ get_or places i 0) (l : i < length places) where
-  pub argument_stands : Arguments args places → TypeAt args from
-  argument_stands a = rw e (argument_type l a)
-
-  pub argument_matched :
-      {s : List ℕ} {w x j m : ℕ} {r : Match} → EndOfType args from m → PartMatched s w (take (m - from) (drop from args)) x j r →
-      ArgumentMatched s w args places i x j r
-  argument_matched {m = m} ends h = within l (λ p.
-      let stands : At args from (encode p.type) = rw e p.stands in
-      let long : m - from ≡ length (encode p.type) = omega (arith, ends (record { type = p.type; stands = stands })) in
-      rw (ap (λ (n : ℕ). take n (drop from args)) long ∙ at_part (encode p.type) stands) at h)
+pub argument_matched :
+    {s : List ℕ} {w : ℕ} {args : List ℕ} {from x j m : ℕ} {r : Option Match} → EndOfType args from m →
+    PartMatched s w (take (m - from) (drop from args)) x j r → ArgumentMatched s w args from x j r
+argument_matched {from = from} {m = m} ends h = record {
+  is = λ p.
+      let long : m - from ≡ length (encode p.type) = omega (arith, ends p) in
+      rw (long, at_part (encode p.type) p.stands) at h;
+}
 
 -- ── the first type ──
 
@@ -105,13 +96,13 @@ all_left q = record { others = q.types; counted = q.counted; stands = q.stands; 
 
 -- by the bytes that it gives first
 first_matched :
-    {s : List ℕ} {e : ℕ} {ty : List ℕ} {p k : ℕ} {args places : List ℕ} {x j : ℕ} {r : Match} (bs : (a : Arguments args places) → List ℕ) →
+    {s : List ℕ} {e : ℕ} {ty : List ℕ} {p k : ℕ} {args places : List ℕ} {x j : ℕ} {r : Option Match} (bs : (a : Arguments args places) → List ℕ) →
     ((q : TypesAt ty p k) (a : Arguments args places) → Opened (all_left q) a.subst (bs a) x j) → ((a : Arguments args places) → PartMatched s e (bs a) x j r) →
     p < x → FirstMatched s e ty p k args places r
 first_matched bs opens m onward = record {
-  yes = λ c y j' z q a.
+  yes = λ match z q a.
       let o = opens q a in
-      let h = (m a).yes c y j' z in
+      let h = (m a).yes match z in
       rw (h.1, h.2) (record {
         bytes = bs a;
         next = record { types = o.left.others; counted = o.left.counted; stands = o.left.stands };
@@ -125,32 +116,35 @@ first_matched bs opens m onward = record {
 }
 
 module _ {s : List ℕ} {e : ℕ} {ty : List ℕ} {p k : ℕ} {args places : List ℕ} (l : 0 < k) {token : Token} (w : TokenAt ty p token) where
-  pub leaf_first : {b : ℕ} {r : Match} → token ≡ Leaf b → PartMatched s e (take 1 (drop p ty)) (p + 1) (k - 1) r → FirstMatched s e ty p k args places r
+  pub leaf_first : {b : ℕ} {r : Option Match} → token ≡ Leaf b → PartMatched s e (take 1 (drop p ty)) (p + 1) (k - 1) r → FirstMatched s e ty p k args places r
   leaf_first z m = first_matched (λ a. take 1 (drop p ty)) (λ q a. leaf_opened l (all_left q) a.subst w z) (λ a. m) (omega arith)
 
-  pub struct_first : {h : StructHandleIndex} {r : Match} → token ≡ Struct h → PartMatched s e (take 3 (drop p ty)) (p + 3) (k - 1) r → FirstMatched s e ty p k args places r
+  pub struct_first : {h : StructHandleIndex} {r : Option Match} → token ≡ Struct h → PartMatched s e (take 3 (drop p ty)) (p + 3) (k - 1) r → FirstMatched s e ty p k args places r
   struct_first z m = first_matched (λ a. take 3 (drop p ty)) (λ q a. struct_opened l (all_left q) a.subst w z) (λ a. m) (omega arith)
 
-  pub wrapped_first : {v : Wrapper} {x : ℕ} {r : Match} → token ≡ Wrapped v x → TypesAt ty p k → PartMatched s e (take 1 (drop p ty)) x k r → FirstMatched s e ty p k args places r
+  pub wrapped_first : {v : Wrapper} {x : ℕ} {r : Option Match} → token ≡ Wrapped v x → TypesAt ty p k → PartMatched s e (take 1 (drop p ty)) x k r → FirstMatched s e ty p k args places r
   wrapped_first z q₀ m =
       first_matched (λ a. take 1 (drop p ty)) (λ q a. inner_opened l (all_left q) a.subst w z) (λ a. m)
       (omega (arith, (wrapped_at w (type_left l (all_left q₀)) z).place))
 
-  pub instantiation_first : {h : StructHandleIndex} {m x : ℕ} {r : Match} → token ≡ StructInstantiation h m x → TypesAt ty p k → PartMatched s e (take 4 (drop p ty)) x (k - 1 + m) r → FirstMatched s e ty p k args places r
+  pub instantiation_first : {h : StructHandleIndex} {m x : ℕ} {r : Option Match} → token ≡ StructInstantiation h m x → TypesAt ty p k → PartMatched s e (take 4 (drop p ty)) x (k - 1 + m) r → FirstMatched s e ty p k args places r
   instantiation_first z q₀ m =
       first_matched (λ a. take 4 (drop p ty)) (λ q a. arguments_opened l (all_left q) a.subst w z) (λ a. m)
       (omega (arith, (instantiation_at w (type_left l (all_left q₀)) z).place))
 
   -- a parameter gives its argument's bytes, or nothing
-  pub parameter_first : {i : ℕ} {r : Match} → token ≡ TypeParameter i → ArgumentMatched s e args places i (p + 3) (k - 1) r → FirstMatched s e ty p k args places r
-  parameter_first {i} z (within f m) =
+  pub parameter_first : {i : ℕ} {t : TypeRef} {r : Option Match} → token ≡ TypeParameter i → IsPlaced args places i t →
+      ArgumentMatched s e t.bytes.now t.at (p + 3) (k - 1) r → FirstMatched s e ty p k args places r
+  parameter_first {i} z placed m =
+      let f = placed.within in
+      let h : ArgumentMatched s e args (get_or places i 0) (p + 3) (k - 1) _ = rw (placed.bytes, placed.place) at m in
       first_matched (λ a. encode (argument_is i f a.standing).type) (λ q a. argument_opened l (all_left q) a.subst w z (argument_is i f a.standing))
-      (λ a. let h = argument_is i f a.standing in m (record { type = h.type; stands = h.stands })) (omega arith)
-  parameter_first z (past f) = record {
-    yes = λ c y j h. let n : ◌≡◌ {A = ℕ} 0 1 = cc in absurd (omega arith);
-    no = λ h q a cs fill.
-        let none = sym (argument_none l (all_left q) a.subst w z f a.standing) ∙ fill in
-        let n : ◌≡◌ {A = ℕ} 0 1 = cc in absurd (omega arith);
+      (λ a. let g = argument_is i f a.standing in h.is (record { type = g.type; stands = g.stands })) (omega arith)
+
+  pub parameter_none : {i : ℕ} → token ≡ TypeParameter i → length places ≤ i → FirstMatched s e ty p k args places None
+  parameter_none z f = record {
+    yes = λ m h. absurd cc;
+    no = λ h q a cs fill. let none = sym (argument_none l (all_left q) a.subst w z f a.standing) ∙ fill in absurd cc;
   }
 
 -- ── the loop ──
@@ -181,12 +175,12 @@ agreed_start {s} {x} t = record {
 }
 
 module _ {s : List ℕ} {x : ℕ} {ty : List ℕ} {at : ℕ} {args places : List ℕ} {e p k : ℕ} (g : Agreed s x ty at args places e p k) where
-  pub agreed_on : {c y j : ℕ} {r : Match} → FirstMatched s e ty p k args places r → r ≡ Upto c y j → TypeAt ty at → Arguments args places → Agreed s x ty at args places c y j
-  agreed_on {c} {y} {j} m z q₀ a₀ = record {
-    low = (m.yes c y j z (g.is q₀ a₀).next a₀).reaches.within;
+  pub agreed_on : {m : Match} → FirstMatched s e ty p k args places (Some m) → TypeAt ty at → Arguments args places → Agreed s x ty at args places m.reached m.next m.left
+  agreed_on {m} f q₀ a₀ = record {
+    low = (f.yes m refl (g.is q₀ a₀).next a₀).reaches.within;
     is = λ q a.
         let h = g.is q a in
-        let t = m.yes c y j z h.next a in
+        let t = f.yes m refl h.next a in
         record {
           next = t.next;
           done = h.done ++ t.bytes;
@@ -196,12 +190,12 @@ module _ {s : List ℕ} {x : ℕ} {ty : List ℕ} {at : ℕ} {args places : List
         };
   }
 
-  pub agreed_no : {r : Match} → FirstMatched s e ty p k args places r → r ≡ No → SameFilled s x ty at args places false
-  agreed_no m z = record {
+  pub agreed_no : FirstMatched s e ty p k args places None → SameFilled s x ty at args places false
+  agreed_no m = record {
     tells = λ t q a fill.
         let h = g.is q a in
         let f = after_ok h.done (filled_all h.next.types a.subst) (sym h.is ∙ fill) in
-        m.no z h.next a f.bytes f.here (rw h.reached (at_back h.done f.bytes (rw f.is at t.stands)));
+        m.no refl h.next a f.bytes f.here (rw h.reached (at_back h.done f.bytes (rw f.is at t.stands)));
   }
 
   -- all of it is matched, and what is made of the type is the one type that stands there

@@ -13,8 +13,10 @@ use Rattle.signature_token.specs.declared.Token.TheVariants.{Leaf, Wrapped, Stru
 use Rattle.signature_token.specs.Token.{TokenAt, at_some}
 use Rattle.signature_token.specs.TokenLaws.{leaf_byte}
 use Rattle.signature_token.specs.Ends.{leaf_end, struct_end, parameter_end}
+use Rattle.signature_token.specs.declared.TypeRef.{TypeRef}
+use Rattle.type_places.specs.Arguments.{IsPlaced}
 use Rattle.substitution_writer.specs.declared.Reached.{Reached}
-use Rattle.byte_parts.specs.Bytes.{over, sets_over, sets_append, Copied, byte_copied, part_long}
+use Rattle.substitution.specs.Bytes.{over, sets_over, sets_append, Put, byte_put}
 use Rattle.substitution.specs.Filling.{Filling, Fillings, Room, Rooms, Whole, Below, leaf_whole, struct_whole, wrapped_below, instantiation_below, parameter_replaced, Gone, gone_start, gone_next, gone_end, gone_bytes, turn_filling, turn_room}
 
 -- ── the words ──
@@ -49,46 +51,42 @@ abbrev at_end : ℕ → ℕ → Reached
 at_end next e = record { next = next; end = e }
 
 wrote_whole :
-    {s : List ℕ} {at k w : ℕ} {bytes d d' : List ℕ} {e next end : ℕ} → Whole s at k bytes → Copied d w s at k d' e → next ≡ end →
+    {s : List ℕ} {at k w : ℕ} {bytes d d' : List ℕ} {e next end : ℕ} → Whole s at k bytes → Put d w (take k (drop at s)) d' e → next ≡ end →
     Wrote w bytes end d d' (at_end next e)
-wrote_whole {s} {at} {k} {w} {bytes} {d} h c n = record {
-  ends = n;
-  reached = omega (arith, c.reached, h.long);
-  now = c.now ∙ ap (sets d w) (sym h.is);
-}
+wrote_whole h c n = record { ends = n; reached = rw h.is c.reached; now = rw h.is c.now }
 
 wrote_below :
-    {s : List ℕ} {at k w : ℕ} {bytes below d d₁ d₂ : List ℕ} {e next end : ℕ} {r : Reached} → Below s at k bytes below → Copied d w s at k d₁ e →
-    Wrote e below next d₁ d₂ r → next ≡ end → Wrote w bytes end d d₂ r
-wrote_below {s} {at} {k} {w} {bytes} {below} {d} h c v n =
-    let l = part_long s at k h.room in
-    let z : w + k ≡ w + length (take k (drop at s)) = omega arith in
-    record {
-      ends = v.ends ∙ n;
-      reached = omega (arith, v.reached, c.reached, h.long);
-      now = v.now ∙ rw (c.now, c.reached, z, sets_append d w (take k (drop at s)) below, h.is);
-    }
+    {s : List ℕ} {at k w : ℕ} {bytes below d d₁ d₂ : List ℕ} {e next end : ℕ} {r : Reached} → Below s at k bytes below →
+    Put d w (take k (drop at s)) d₁ e → Wrote e below next d₁ d₂ r → next ≡ end → Wrote w bytes end d d₂ r
+wrote_below {s} {at} {k} {w} {bytes} {below} {d} h c v n = record {
+  ends = v.ends ∙ n;
+  reached = omega (arith, v.reached, c.reached, ap length h.is, length-append (take k (drop at s)) below);
+  now = v.now ∙ rw (c.now, c.reached, sets_append d w (take k (drop at s)) below, h.is);
+}
 
 module _ {ty : List ℕ} {at : ℕ} {r : Token} (t : TokenAt ty at r) {args places : List ℕ} {w : ℕ} {d d₁ : List ℕ} {e : ℕ} where
-  pub leaf_wrote : {b : ℕ} → r ≡ Leaf b → Copied d w ty at 1 d₁ e → WroteFrom ty at args places w d d₁ (at_end (at + 1) e)
+  pub leaf_wrote : {b : ℕ} → r ≡ Leaf b → Put d w (take 1 (drop at ty)) d₁ e → WroteFrom ty at args places w d d₁ (at_end (at + 1) e)
   leaf_wrote k c = record { is = λ f. wrote_whole (leaf_whole t f k) c (leaf_end t k f.from) }
 
-  pub struct_wrote : {h : StructHandleIndex} → r ≡ Struct h → Copied d w ty at 3 d₁ e → WroteFrom ty at args places w d d₁ (at_end (at + 3) e)
+  pub struct_wrote : {h : StructHandleIndex} → r ≡ Struct h → Put d w (take 3 (drop at ty)) d₁ e → WroteFrom ty at args places w d d₁ (at_end (at + 3) e)
   struct_wrote k c = record { is = λ f. wrote_whole (struct_whole t f k) c (struct_end t k f.from) }
 
   pub wrapped_wrote :
-      {v : Wrapper} {x : ℕ} {d₂ : List ℕ} {z : Reached} → r ≡ Wrapped v x → Copied d w ty at 1 d₁ e → WroteFrom ty x args places e d₁ d₂ z →
+      {v : Wrapper} {x : ℕ} {d₂ : List ℕ} {z : Reached} → r ≡ Wrapped v x → Put d w (take 1 (drop at ty)) d₁ e → WroteFrom ty x args places e d₁ d₂ z →
       WroteFrom ty at args places w d d₂ z
   wrapped_wrote k c v = record { is = λ f. let i = wrapped_below t f k in wrote_below i.below c (v.is i.inner) i.ends }
 
   pub instantiation_wrote :
-      {h : StructHandleIndex} {n x : ℕ} {d₂ : List ℕ} {z : Reached} → r ≡ StructInstantiation h n x → Copied d w ty at 4 d₁ e →
+      {h : StructHandleIndex} {n x : ℕ} {d₂ : List ℕ} {z : Reached} → r ≡ StructInstantiation h n x → Put d w (take 4 (drop at ty)) d₁ e →
       WroteAllFrom ty x n args places e d₁ d₂ z → WroteFrom ty at args places w d d₂ z
   instantiation_wrote k c v = record { is = λ f. let i = instantiation_below t f k in wrote_below i.below c (v.is i.inner) i.ends }
 
-  pub parameter_wrote : {j : ℕ} → r ≡ TypeParameter j → ArgumentWritten args (get_or places j 0) w d d₁ e → WroteFrom ty at args places w d d₁ (at_end (at + 3) e)
-  parameter_wrote {j} k c = record {
+  pub parameter_wrote :
+      {j : ℕ} {a : TypeRef} → r ≡ TypeParameter j → IsPlaced args places j a → ArgumentWritten a.bytes.now a.at w d d₁ e →
+      WroteFrom ty at args places w d d₁ (at_end (at + 3) e)
+  parameter_wrote {j} k placed written = record {
     is = λ f.
+        let c : ArgumentWritten args (get_or places j 0) w d d₁ e = rw (placed.bytes, placed.place) at written in
         let i = parameter_replaced t f k in
         let p : TypeAt args (get_or places j 0) = record { type = i.type; stands = i.stands } in
         record { ends = parameter_end t k f.from; reached = omega (arith, c.reached p, ap length i.is); now = c.now p ∙ ap (sets d w) (sym i.is) };
@@ -97,13 +95,16 @@ module _ {ty : List ℕ} {at : ℕ} {r : Token} (t : TokenAt ty at r) {args plac
 -- ── arguments ──
 
 module _ {args : List ℕ} {from : ℕ} where
-  pub argument_wrote : {w : ℕ} {d d' : List ℕ} {e x : ℕ} → EndOfType args from x → Copied d w args from (x - from) d' e → ArgumentWritten args from w d d' e
+  pub argument_wrote : {w : ℕ} {d d' : List ℕ} {e x : ℕ} → EndOfType args from x → Put d w (take (x - from) (drop from args)) d' e → ArgumentWritten args from w d d' e
   argument_wrote {w} {d} {d'} {e} {x} f c = record {
-    reached = λ p. omega (arith, c.reached, f p);
-    now = λ p.
-        let z : x - from ≡ length (encode p.type) = omega (arith, f p) in
-        c.now ∙ rw (z, at_part (encode p.type) p.stands);
+    reached = λ p. let h = is p in omega (arith, h.reached);
+    now = λ p. (is p).now;
   }
+    where
+      is : (p : TypeAt args from) → Put d w (encode p.type) d' e
+      is p =
+          let z : x - from ≡ length (encode p.type) = omega (arith, f p) in
+          rw (z, at_part (encode p.type) p.stands) at c
 
 -- ── lists ──
 
@@ -168,4 +169,4 @@ wrote_at {ty} {at} {args} {places} {d} v = record {
 pub leaf_at_front :
     {ty : List ℕ} {at : ℕ} {r : Token} {args places d : List ℕ} {b : ℕ} → TokenAt ty at r → TypeAt ty at → r ≡ Leaf b →
     WroteAt ty at args places d (set d 0 b) (at_end (at + 1) 1)
-leaf_at_front {ty} {at} {r} {args} {places} {d} t p e = wrote_at (leaf_wrote t e (rw (leaf_byte t p e) at (byte_copied d 0 ty at (at_some p))))
+leaf_at_front {ty} {at} {r} {args} {places} {d} t p e = wrote_at (leaf_wrote t e (rw (leaf_byte t p e) at (byte_put d 0 ty at (at_some p))))

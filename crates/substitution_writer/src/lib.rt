@@ -2,110 +2,112 @@
 // has room for it.
 #![tactic(auto)]
 
-ghost use Rattle.std.specs.Prelude.{length};
+ghost use Rattle.std.specs.Prelude.{◌+◌, ◌≤◌, length};
+ghost use Rattle.substitution.specs.Bytes.{Put};
 ghost use Rattle.substitution.specs.Filling.{Room, Rooms, ArgumentRoom};
 ghost use Rattle.substitution_writer.specs.Write.{ArgumentWritten, WroteFrom, WroteAllFrom, WroteAt};
 
-use signature_token::Token;
+use signature_token::{Token, TypeList, TypeRef};
+use type_places::TypePlaces;
 
-// Where a type ends in ty, and where its bytes end that were written.
+// Where a type ends among the bytes that it is read from, and where its bytes end that were written.
 #[derive(Clone, Copy)]
 pub struct Reached {
     pub next: usize,
     pub end: usize,
 }
 
-// Writes the argument at `from` into out at w.
-fn write_argument(out: &mut [u8], w: usize, args: &[u8], from: usize) -> usize
-    requires { ArgumentRoom args.now from w (length out.old) }
-    ensures { ArgumentWritten args.now from w out.old out.new result }
+// Writes the bytes into out at w. Answers where they end there.
+fn put(out: &mut [u8], w: usize, bytes: &[u8]) -> usize
+    requires { w + length bytes.now ≤ length out.old }
+    ensures { Put out.old w bytes.now out.new result }
 {
-    let len = signature_token::end_of_type(args, from) - from;
-    byte_parts::copy(out, w, args, from, len)
+    let end = w + bytes.len();
+    out[w..end].copy_from_slice(bytes);
+    end
 }
 
-// Writes the type at `at` of ty, its parameters replaced, into out at w.
-#[cycle(write_type_write_types)]
-fn write_type(
-    out: &mut [u8],
-    w: usize,
-    ty: &[u8],
-    at: usize,
-    args: &[u8],
-    places: &[u16],
-) -> Reached
-    requires { Room ty.now at args.now places.now w (length out.old) }
-    ensures { WroteFrom ty.now at args.now places.now w out.old out.new result }
+// Writes the argument into out at w.
+fn write_argument(out: &mut [u8], w: usize, argument: TypeRef) -> usize
+    requires { ArgumentRoom argument.bytes.now argument.at w (length out.old) }
+    ensures { ArgumentWritten argument.entry.bytes.now argument.entry.at w out.old out.new result }
 {
-    match signature_token::token_at(ty, at) {
-        Token::Leaf(_) => Reached {
-            next: at + 1,
-            end: byte_parts::copy(out, w, ty, at, 1),
-        },
+    let end = argument.end();
+    put(out, w, &argument.bytes[argument.at..end])
+}
+
+// Writes the type, its parameters replaced, into out at w.
+#[cycle(write_type_write_types)]
+fn write_type(out: &mut [u8], w: usize, ty: TypeRef, args: TypePlaces) -> Reached
+    requires { Room ty.bytes.now ty.at args.bytes.now args.places.now w (length out.old) }
+    ensures { WroteFrom ty.entry.bytes.now ty.entry.at args.entry.bytes.now args.entry.places.now w out.old out.new result }
+{
+    let bytes = ty.bytes;
+    let at = ty.at;
+    match ty.token() {
+        Token::Leaf(command) => {
+            out[w] = command;
+            Reached {
+                next: at + 1,
+                end: w + 1,
+            }
+        }
         Token::Wrapped(_, inner) => {
-            let after = byte_parts::copy(out, w, ty, at, 1);
-            write_type(out, after, ty, inner, args, places)
+            out[w] = bytes[at];
+            write_type(out, w + 1, TypeRef { bytes, at: inner }, args)
         }
         Token::Struct(_) => Reached {
             next: at + 3,
-            end: byte_parts::copy(out, w, ty, at, 3),
+            end: put(out, w, &bytes[at..at + 3]),
         },
-        Token::StructInstantiation(_, n, first) => {
-            let after = byte_parts::copy(out, w, ty, at, 4);
-            write_types(out, after, ty, first, n, args, places)
+        Token::StructInstantiation(_, count, first) => {
+            let after = put(out, w, &bytes[at..at + 4]);
+            let types = TypeList {
+                bytes,
+                at: first,
+                count,
+            };
+            write_types(out, after, types, args)
         }
         Token::TypeParameter(i) => Reached {
             next: at + 3,
-            end: write_argument(out, w, args, places[i] as usize),
+            end: write_argument(out, w, args.get(i).unwrap()),
         },
     }
 }
 
-// The same of the n types at `at`.
+// The same of the types of a list.
 #[cycle(write_type_write_types)]
-fn write_types(
-    out: &mut [u8],
-    w: usize,
-    ty: &[u8],
-    at: usize,
-    n: usize,
-    args: &[u8],
-    places: &[u16],
-) -> Reached
-    requires { Rooms ty.now at n args.now places.now w (length out.old) }
-    ensures { WroteAllFrom ty.now at n args.now places.now w out.old out.new result }
+fn write_types(out: &mut [u8], w: usize, types: TypeList, args: TypePlaces) -> Reached
+    requires { Rooms types.bytes.now types.at types.count args.bytes.now args.places.now w (length out.old) }
+    ensures { WroteAllFrom types.entry.bytes.now types.entry.at types.entry.count args.entry.bytes.now args.entry.places.now w out.old out.new result }
 {
-    let mut p = at;
-    let mut e = w;
-    let mut i = 0;
-    while i < n {
-        let one = write_type(out, e, ty, p, args, places);
-        p = one.next;
-        e = one.end;
-        i += 1;
+    let bytes = types.bytes;
+    let mut at = types.at;
+    let mut reached = w;
+    for _ in 0..types.count {
+        let one = write_type(out, reached, TypeRef { bytes, at }, args);
+        at = one.next;
+        reached = one.end;
     }
-    Reached { next: p, end: e }
+    Reached {
+        next: at,
+        end: reached,
+    }
 }
 
-// `instantiate`: writes the type at `at` of ty, its parameters replaced, to the front of out. A leaf has its own way, since most types are
-// leaves: it saves the call into the walk.
-pub fn instantiate_into(
-    out: &mut [u8],
-    ty: &[u8],
-    at: usize,
-    args: &[u8],
-    places: &[u16],
-) -> Reached
-    requires { Room ty.now at args.now places.now 0 (length out.old) }
-    ensures { WroteAt ty.now at args.now places.now out.old out.new result }
+// `instantiate`: writes the type, its parameters replaced, to the front of out. A leaf has its own way, since most types are leaves: it saves
+// the call into the walk.
+pub fn instantiate_into(out: &mut [u8], ty: TypeRef, args: TypePlaces) -> Reached
+    requires { Room ty.bytes.now ty.at args.bytes.now args.places.now 0 (length out.old) }
+    ensures { WroteAt ty.entry.bytes.now ty.entry.at args.entry.bytes.now args.entry.places.now out.old out.new result }
 {
-    let token = signature_token::token_at(ty, at);
-    let Token::Leaf(command) = token else {
-        return write_type(out, 0, ty, at, args, places);
+    let Token::Leaf(command) = ty.token() else {
+        return write_type(out, 0, ty, args);
     };
     out[0] = command;
     Reached {
-        next: at + 1,
+        next: ty.at + 1,
         end: 1,
     }
 }

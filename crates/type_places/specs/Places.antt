@@ -12,6 +12,7 @@ use Rattle.theorems.specs.Bytes.{list_of}
 use Rattle.theorems.specs.AtLaws.{at_room}
 use Rattle.signature_token.specs.Token.{at_some}
 use Rattle.signature_token.specs.TokenLaws.{none_is}
+use Rattle.type_places.specs.Arguments.{Arguments}
 use Rattle.signature_token.specs.Lists.{Rest, along_start, next_is, next_type, rest_next, left_done}
 
 -- each of the types stands at its place and ends at the next one; behind the place of the last type is where it ends
@@ -80,3 +81,17 @@ module _ {s : List ℕ} {at n : ℕ} {out : List ℕ} where
           let z : list_of c.rest.others ≡ [] = ap list_of (none_is c.rest.others (c.rest.counted ∙ omega arith)) in
           let e : i ≡ n = let m = w.most in omega arith in
           rw e at (c.before [] (rw z Consecutive.none))
+
+-- bytes and places are those of the n types at `at`
+pub record PlacedList (s : List ℕ) (at n : ℕ) (bytes places : List ℕ) : Type 0 where
+  pub same : bytes ≡ s
+  pub standing : (q : TypesAt s at n) → Standing s places (list_of q.types)
+
+-- ── the whole list, by the places at the front of out ──
+
+module _ {s : List ℕ} {at n : ℕ} {out : List ℕ} {r : ℕ} (p : PlacesAt s at n out r) where
+  pub placed_arguments : TypesAt s at n → Arguments s (take n out)
+  placed_arguments q = record { subst = list_of q.types; standing = p.standing q }
+
+  pub placed_list : PlacedList s at n s (take n out)
+  placed_list = record { same = refl; standing = λ q. p.standing q }

@@ -15,3 +15,6 @@ module _ {m : Bool} where
   pub immutable_command : m ≡ false → ReferenceCommand m 0x0A
   unfolding encode reference_to
   immutable_command e = rw e (record { is = λ t. refl })
+
+-- the two
+pub ruleset commands = (mutable_command, immutable_command)

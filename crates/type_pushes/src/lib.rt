@@ -9,8 +9,7 @@ ghost use Rattle.type_stack.specs.Held.{Stacked, part};
 ghost use Rattle.type_stack.specs.Pushing.{PushesTo};
 ghost use Rattle.type_pushes.specs.References.{ReferenceCommand};
 
-use status::StatusCode;
-use type_stack::Stepped;
+use status::{PartialVMResult, StatusCode};
 
 // Writes a type's first byte. Its operands are written behind it.
 pub fn put_command(area: &mut [u8], weight: usize, command: u8)
@@ -21,6 +20,7 @@ pub fn put_command(area: &mut [u8], weight: usize, command: u8)
 }
 
 // The first byte of a reference, mutable or not.
+#[tactic(auto, using(crate::specs::References::commands))]
 pub fn reference_command(mutable: bool) -> u8
     ensures { ReferenceCommand mutable result }
 {
@@ -41,24 +41,24 @@ pub fn seal(area: &mut [u8], weight: usize, len: usize) -> usize
 }
 
 // Pushes the type of one byte.
-pub fn push_leaf(area: &mut [u8], weight: usize, command: u8) -> Stepped
+pub fn push_leaf(area: &mut [u8], weight: usize, command: u8) -> PartialVMResult<usize>
     requires { Stacked area.old weight }
     ensures { PushesTo (command ∷ []) area.old weight area.new result }
 {
     if area.len() - weight < 3 {
-        return Stepped::Refused(StatusCode::NO_ROOM);
+        return Err(StatusCode::NO_ROOM);
     }
     put_command(area, weight, command);
-    Stepped::Next(seal(area, weight, 1))
+    Ok(seal(area, weight, 1))
 }
 
 // Pushes the type that stands at weight, up to `to`, with another first byte, and with room for a length behind it. FreezeRef's: the
 // popped reference, immutable.
-pub fn push_retagged(area: &mut [u8], weight: usize, tag: u8, to: usize) -> Stepped
+pub fn push_retagged(area: &mut [u8], weight: usize, tag: u8, to: usize) -> PartialVMResult<usize>
     requires stacked { Stacked area.old weight }
     requires weight_lt_to { (weight < to) × (to + 2 ≤ length area.old) }
     ensures { PushesTo (tag ∷ part area.old (weight + 1) to) area.old weight area.new result }
 {
     put_command(area, weight, tag);
-    Stepped::Next(seal(area, weight, to - weight))
+    Ok(seal(area, weight, to - weight))
 }

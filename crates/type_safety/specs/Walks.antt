@@ -17,18 +17,17 @@ use Rattle.type_stack.specs.Held.{Holds, Stacked, held_none, empty_stacked}
 use Rattle.type_stack.specs.Stepping.{and_stacked}
 use Rattle.type_stack.specs.Leading.{Leads, leads_here, leads_on}
 use Rattle.type_stack.specs.Walking.{Ends, WalksTo, types_verdict_law, walk_out, walked_stacked, instruction_next, instruction_refused, instructions_end, block_next, block_stopped, blocks_end}
-use Rattle.type_stack.specs.declared.Stepped.{Stepped}
-use Rattle.type_stack.specs.declared.Stepped.TheVariants.{Next, Refused}
-use Rattle.type_stack.specs.declared.Walk.{Walk}
-use Rattle.type_stack.specs.declared.Walk.TheVariants.{Stands, Stopped}
+use Rattle.std.specs.Prelude.{Ok, Err}
+use Rattle.type_stack.specs.declared.Stopped.{Stopped}
+use Rattle.type_stack.specs.Answers.{Walk, stopped_at}
 use Rattle.code_views.specs.Along.{from_place, up_to, up_to_more, up_to_none, past_end}
 use Rattle.instructions.specs.Does.{DoesAt}
 use Rattle.type_safety.specs.declared.Types.{Types}
 
 -- the offset that a walk names
 abbrev pub offset_of : Walk → ℕ
-offset_of (Stands v) = 0
-offset_of (Stopped y o v) = o
+offset_of (Ok v) = 0
+offset_of (Err e) = e.offset
 
 -- walks is the walk by the area's length
 pub record Walks (walks : ℕ → Stack → Walked) (a : List ℕ) (w : ℕ) (b : List ℕ) (r : Walk) : Type 0 where
@@ -49,22 +48,22 @@ unfolding walk_block instructions_of
 in_block_start u k z = record { same = refl; stacked = z; leads = leads_here }
 
 module _ {u : CompiledUnit} {k : Block} {a b : List ℕ} {w v i : ℕ} (inv : InBlock u k a w b v i) where
-  module _ {d : List ℕ} {q : Stepped} (l : i ≤ k.last) (z : DoesAt u i b v d q) (e : length d ≡ length b) where
-    pub in_block_next : {x : ℕ} → q ≡ Next x → InBlock u k a w d x (i + 1)
-    in_block_next f = record {
+  module _ {d : List ℕ} (l : i ≤ k.last) (e : length d ≡ length b) where
+    pub in_block_next : {x : ℕ} → DoesAt u i b v d (Ok x) → InBlock u k a w d x (i + 1)
+    in_block_next z = record {
       same = e ∙ inv.same;
-      stacked = and_stacked z.steps inv.stacked f e;
-      leads = rw (add-one i) (leads_on (rw (up_to_more k.last i u.code l z.stands) at inv.leads) (instruction_next u i z.instruction _ (sym inv.same) z.steps f));
+      stacked = and_stacked z.steps inv.stacked refl e;
+      leads = rw (add-one i) (leads_on (rw (up_to_more k.last i u.code l z.stands) at inv.leads) (instruction_next u i z.instruction _ (sym inv.same) z.steps refl));
     }
 
-    pub in_block_refused : {y : StatusCode} → q ≡ Refused y → i < 65536 → Walks (λ n. walk_block u n k) a w d (Stopped y i v)
-    in_block_refused f n = record {
+    pub in_block_refused : {y : StatusCode} → DoesAt u i b v d (Err y) → i < 65536 → Walks (λ n. walk_block u n k) a w d (Err (stopped_at y i v))
+    in_block_refused z n = record {
       same = e ∙ inv.same;
       near = n;
-      goes = walk_out (rw (up_to_more k.last i u.code l z.stands) at inv.leads) (instruction_refused u i z.instruction _ (sym inv.same) z.steps f);
+      goes = walk_out (rw (up_to_more k.last i u.code l z.stands) at inv.leads) (instruction_refused u i z.instruction _ (sym inv.same) z.steps refl);
     }
 
-  pub in_block_end : k.last < i → Walks (λ n. walk_block u n k) a w b (Stands v)
+  pub in_block_end : k.last < i → Walks (λ n. walk_block u n k) a w b (Ok v)
   in_block_end l = record {
     same = inv.same;
     near = omega arith;
@@ -104,7 +103,7 @@ unfolding weight
 weightless [] e = refl
 weightless (t ∷ s) e = absurd (omega arith)
 
-nothing_left : (b : List ℕ) (r : Walked) → Ends b (Stands 0) r → r ≡ stands []
+nothing_left : (b : List ℕ) (r : Walked) → Ends b (Ok 0) r → r ≡ stands []
 unfolding Ends
 nothing_left b (stands s) h = ap stands (weightless s h.weighs)
 nothing_left b (stopped y p s) h = absurd h
@@ -114,31 +113,34 @@ both_true true e k = (refl, k)
 both_true false e k = let z : ◌≡◌ {A = ℕ} 0 1 = cc in absurd (omega arith)
 
 module _ {u : CompiledUnit} {a b : List ℕ} {v i : ℕ} (inv : InBlocks u a b v i) where
-  module _ {k : Block} {d : List ℕ} {q : Walk} (listed : at u.blocks i ≡ ok k) (z : Walks (λ n. walk_block u n k) b v d q) where
-    abbrev block_goes : WalksTo (walk_block u (length a) k) b v d q
-    block_goes = rw inv.same at z.goes
+  module _ {k : Block} {d : List ℕ} (listed : at u.blocks i ≡ ok k) where
+    abbrev block_goes : {q : Walk} → Walks (λ n. walk_block u n k) b v d q → WalksTo (walk_block u (length a) k) b v d q
+    block_goes z = rw inv.same at z.goes
 
-    pub in_blocks_next : {x : ℕ} → q ≡ Stands x → InBlocks u a d x (i + 1)
-    in_blocks_next {x} f = record {
+    pub in_blocks_next : {x : ℕ} → Walks (λ n. walk_block u n k) b v d (Ok x) → InBlocks u a d x (i + 1)
+    in_blocks_next {x} z = record {
       same = z.same ∙ inv.same;
-      stacked = let y = walked_stacked z.goes inv.stacked z.same in rw f at y;
-      leads = rw (add-one i) (leads_on (rw (from_place u.blocks i listed) at inv.leads) (block_next u (length a) k _ block_goes f));
+      stacked = walked_stacked z.goes inv.stacked z.same;
+      leads = rw (add-one i) (leads_on (rw (from_place u.blocks i listed) at inv.leads) (block_next u (length a) k _ (block_goes z) refl));
     }
 
     -- a block that leaves nothing on the stack
-    pub clean_next : {x : ℕ} {clean : Bool} → q ≡ Stands x → (clean ≡ true → CleanSoFar u (length a) v i) → (eqb x 0 && clean) ≡ true → CleanSoFar u (length a) x (i + 1)
-    clean_next {x} {clean} f so e =
-        let (now, was) = both_true (eqb x 0) clean e in
+    pub clean_next :
+        {x : ℕ} {clean : Bool} → Walks (λ n. walk_block u n k) b v d (Ok x) → (clean ≡ true → CleanSoFar u (length a) v i) → (clean && eqb x 0) ≡ true →
+        CleanSoFar u (length a) x (i + 1)
+    clean_next {x} {clean} z so e =
+        let (was, now) = both_true clean (eqb x 0) e in
         let here = so was in
         let zero : x ≡ 0 = eqb→eq x 0 (subst T (sym now) tt) in
-        let walked : walk_block u (length a) k [] ≡ stands [] = nothing_left d _ (rw (f, zero) at (block_goes.ends [] (rw here.none (held_none b)))) in
+        let walked : walk_block u (length a) k [] ≡ stands [] = nothing_left d _ (rw zero at ((block_goes z).ends [] (rw here.none (held_none b)))) in
         record { none = zero; rest = λ c. here.rest (rw (from_place u.blocks i listed) (block walked refl (rw (add-one i) at c))) }
 
     -- a refusal ends the walk with its verdict
-    pub in_blocks_stopped : {y : StatusCode} {o x : ℕ} → q ≡ Stopped y o x → (o < 65536) × (refusal y (Instruction o) ≡ type_safety u (length a))
-    in_blocks_stopped f = (
-      rw f at z.near,
-      types_verdict_law u (length a) (walk_out (rw (from_place u.blocks i listed) at inv.leads) (block_stopped u (length a) k _ block_goes f)),
+    pub in_blocks_stopped :
+        {e : Stopped} → Walks (λ n. walk_block u n k) b v d (Err e) → (e.offset < 65536) × (refusal e.status (Instruction e.offset) ≡ type_safety u (length a))
+    in_blocks_stopped z = (
+      z.near,
+      types_verdict_law u (length a) (walk_out (rw (from_place u.blocks i listed) at inv.leads) (block_stopped u (length a) k _ (block_goes z) refl)),
     )
 
   -- behind the last block

@@ -3,19 +3,19 @@
 // was, stack usage accepts too (theorems, proofs/Clean).
 #![tactic(auto)]
 
-ghost use Rattle.std.specs.Prelude.{◌≡◌, ◌≤◌, ◌<◌, ◌&&◌, eqb, length};
-ghost use Rattle.definitions.specs.Reader.{compiled_unit};
+ghost use Rattle.std.specs.Prelude.{◌≡◌, ◌≤◌, ◌<◌, length};
 ghost use Rattle.definitions.specs.Verify.{walk_block};
-ghost use Rattle.locals.specs.Locals.{LocalPlaces};
 ghost use Rattle.type_stack.specs.Held.{Stacked};
-ghost use Rattle.unit.specs.Views.{UnitRead};
+ghost use Rattle.unit_tables.specs.Compiled.{compiled};
 ghost use Rattle.code_views.specs.Answers.{block_of};
 ghost use Rattle.type_safety.specs.Walks.{Walks, TypesOf};
 
 use code_views::Block;
+use function_views::FunctionTypes;
+use locals::Locals;
 use status::{Position, Verdict};
-use type_stack::{Stepped, Walk};
-use unit::View;
+use type_stack::{Stopped, Walk};
+use unit_tables::UnitView;
 
 // The verdict of types, and whether the walk was clean: no instruction was refused, and the stack was empty after each block.
 #[derive(Clone, Copy)]
@@ -25,87 +25,45 @@ pub struct Types {
 }
 
 // A block, from the stack that the last one left.
-fn verify_block(
-    area: &mut [u8],
-    weight: usize,
-    s: &[u8],
-    index: &[u16],
-    view: View,
-    parameters: &[u16],
-    locals: &[u16],
-    block: Block,
-) -> Walk
+fn verify_block(area: &mut [u8], weight: usize, locals: &Locals<'_>, block: Block) -> Walk
     requires stacked { Stacked area.old weight }
-    requires unit_read { UnitRead s.now index.now view }
-    requires local_places { LocalPlaces s.now index.now view parameters.now locals.now }
-    requires first_le_last { (block.first ≤ block.last) × (block.last < view.code.count) }
-    ensures { (p : UnitRead s.now index.now view) → Walks (λ n. walk_block (compiled_unit p.decoded) n (block_of block)) area.old weight area.new result }
+    requires first_le_last { (block.first ≤ block.last) × (block.last < locals.now.unit.view.code.count) }
+    ensures { Walks (λ n. walk_block (compiled locals.now.unit) n (block_of block)) area.old weight area.new result }
 {
-    let last = block.last as usize;
     let mut below = weight;
-    let mut i = block.first as usize;
-    while i <= last {
-        match instructions::verify_instr(area, below, s, index, view, parameters, locals, i) {
-            Stepped::Refused(status) => {
-                return Walk::Stopped {
+    for offset in usize::from(block.first)..usize::from(block.last) + 1 {
+        match instructions::verify_instr(area, below, locals, offset) {
+            Ok(next) => below = next,
+            Err(status) => {
+                return Err(Stopped {
                     status,
-                    offset: i,
+                    offset,
                     weight: below,
-                };
-            }
-            Stepped::Next(next) => {
-                below = next;
-                i += 1;
+                });
             }
         }
     }
-    Walk::Stands(below)
-}
-
-// Whether a walk that was clean so far still is, behind a block that leaves a stack of that weight.
-fn still_clean(clean: bool, weight: usize) -> bool
-    ensures { result ≡ eqb weight 0 && clean }
-{
-    if weight == 0 {
-        return clean;
-    }
-    false
+    Ok(below)
 }
 
 // The blocks as listed; the first refusal ends it, with its instruction's offset.
-fn verify_blocks(
-    area: &mut [u8],
-    s: &[u8],
-    index: &[u16],
-    view: View,
-    parameters: &[u16],
-    locals: &[u16],
-) -> Types
-    requires area_len_bound { length area.old ≤ 65535 }
-    requires unit_read { UnitRead s.now index.now view }
-    requires local_places { LocalPlaces s.now index.now view parameters.now locals.now }
-    ensures { (p : UnitRead s.now index.now view) → TypesOf (compiled_unit p.decoded) (length area.old) result }
+fn verify_blocks(area: &mut [u8], locals: &Locals<'_>) -> Types
+    requires { length area.old ≤ 65535 }
+    ensures { TypesOf (compiled locals.now.unit) (length area.old) result }
 {
-    let blocks = view.blocks;
-    let count = blocks.count as usize;
     let mut weight = 0usize;
     let mut clean = true;
-    let mut block_id = 0usize;
-    while block_id < count {
-        let block = code_views::block_at(s, index, view, block_id);
-        match verify_block(area, weight, s, index, view, parameters, locals, block) {
-            Walk::Stands(next) => {
+    for block_id in 0..usize::from(locals.unit.view.blocks.count) {
+        let block = code_views::block_at(&locals.unit, block_id);
+        match verify_block(area, weight, locals, block) {
+            Ok(next) => {
                 weight = next;
-                clean = still_clean(clean, next);
-                block_id += 1;
+                clean &= next == 0;
             }
-            Walk::Stopped {
-                status,
-                offset,
-                weight: _,
-            } => {
+            Err(stopped) => {
+                let position = Position::Instruction(stopped.offset as u16);
                 return Types {
-                    verdict: status::refusal_at(status, Position::Instruction(offset as u16)),
+                    verdict: status::refusal_at(stopped.status, position),
                     clean: false,
                 };
             }
@@ -113,19 +71,23 @@ fn verify_blocks(
     }
     Types {
         verdict: Verdict::Accepted,
-        clean: clean,
+        clean,
     }
 }
 
 // `verify`.
-pub fn verify(area: &mut [u8], s: &[u8], index: &[u16], view: View) -> Types
-    requires area_len_bound { length area.old ≤ 65535 }
-    requires unit_read { UnitRead s.now index.now view }
-    ensures { (p : UnitRead s.now index.now view) → TypesOf (compiled_unit p.decoded) (length area.old) result }
+pub fn verify(area: &mut [u8], unit: &UnitView<'_>) -> Types
+    requires { length area.old ≤ 65535 }
+    ensures { TypesOf (compiled unit.now) (length area.old) result }
 {
     let mut first = [0u16; 256];
-    let n = locals::parameter_places(s, index, view, &mut first);
+    let n = locals::places(unit, FunctionTypes::Parameters, &mut first);
     let mut second = [0u16; 256];
-    let m = locals::local_places(s, index, view, &mut second);
-    verify_blocks(area, s, index, view, &first[..n], &second[..m])
+    let m = locals::places(unit, FunctionTypes::Locals, &mut second);
+    let locals = Locals {
+        unit: *unit,
+        parameters: &first[..n],
+        locals: &second[..m],
+    };
+    verify_blocks(area, &locals)
 }

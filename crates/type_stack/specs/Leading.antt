@@ -11,8 +11,8 @@ use Rattle.definitions.specs.SignatureToken.{SignatureToken, encode}
 use Rattle.definitions.specs.Machine.{Step, ◌>>=◌, done, push, Stack, weight, Outcome, got, refused, run}
 use Rattle.type_stack.specs.Held.{Holds}
 use Rattle.type_stack.specs.Stepping.{StepsTo, Agrees, on_got, run_bind}
-use Rattle.type_stack.specs.declared.Stepped.{Stepped}
-use Rattle.type_stack.specs.declared.Stepped.TheVariants.{Next, Refused}
+use Rattle.type_stack.specs.Answers.{Stepped}
+use Rattle.std.specs.Prelude.{Ok, Err}
 
 -- from any stack of P, f goes on as g does from some stack of Q
 pub record Leads {X : Type 0} (P : Stack → Type 0) (f : Stack → X) (Q : Stack → Type 0) (g : Stack → X) : Type 0 where
@@ -37,13 +37,13 @@ unfoldable pub after : Outcome (Unit {0}) → Stack → Stack
 after (got x s') s = s'
 after (refused y) s = s
 
-module _ {p : Step} {a b : List ℕ} {w : ℕ} {q : Stepped} (x : StepsTo p a w b q) {v : ℕ} (e : q ≡ Next v) where
+module _ {p : Step} {a b : List ℕ} {w : ℕ} {q : Stepped} (x : StepsTo p a w b q) {v : ℕ} (e : q ≡ Ok v) where
   -- the step was not refused
   pub step_got : (s : Stack) → Holds a w s → (run (length a) p s ≡ got tt (after (run (length a) p s) s)) × Holds b v (after (run (length a) p s) s)
   unfolding Agrees after
   step_got s h = go (run (length a) p s) (rw e at (x.agrees s h))
     where
-      go : (o : Outcome (Unit {0})) → Agrees a b (Next v) o → (o ≡ got tt (after o s)) × Holds b v (after o s)
+      go : (o : Outcome (Unit {0})) → Agrees a b (Ok v) o → (o ≡ got tt (after o s)) × Holds b v (after o s)
       go (got u s') k = (refl, k)
       go (refused y) k = absurd k
 
@@ -62,7 +62,7 @@ module _ {p : Step} {a : List ℕ} {w v : ℕ} where
   leads_then x y = record { agrees = λ s h. rw (x.goes s h) (y.agrees (x.stack s h) (x.holds s h)) }
 
   -- nothing is left to do
-  pub leads_done : {q : Step} {b : List ℕ} → q ≡ done → Leads (Holds a w) (run (length a) p) (Holds b v) (run (length a) q) → StepsTo p a w b (Next v)
+  pub leads_done : {q : Step} {b : List ℕ} → q ≡ done → Leads (Holds a w) (run (length a) p) (Holds b v) (run (length a) q) → StepsTo p a w b (Ok v)
   unfolding Agrees run done
   leads_done e x = record { agrees = λ s h. rw (x.goes s h, e) (x.holds s h) }
 
@@ -80,7 +80,7 @@ pub stuck_on : {n w v : ℕ} {p q : Step} {y : StatusCode} → Leads (Weighs w) 
 stuck_on x y = record { is = λ s h. x.goes s h ∙ y.is (x.stack s h) (x.holds s h) }
 
 -- nothing was written
-pub stuck_refused : {a : List ℕ} {w : ℕ} {p : Step} {y : StatusCode} → Stuck (length a) w p y → StepsTo p a w a (Refused y)
+pub stuck_refused : {a : List ℕ} {w : ℕ} {p : Step} {y : StatusCode} → Stuck (length a) w p y → StepsTo p a w a (Err y)
 unfolding Agrees
 stuck_refused x = record { agrees = λ s h. rw (x.is s (record { is = h.weighs })) (refl, refl) }
 

@@ -1,4 +1,5 @@
 -- The modules of this crate's specs.
+pub mod Answers
 pub mod Spliced
 pub mod Held
 pub mod Tops

@@ -15,46 +15,45 @@ use Rattle.type_stack.specs.Held.{Holds, popped}
 use Rattle.type_stack.specs.Tops.{TopOf, top_of}
 use Rattle.type_stack.specs.Stepping.{StepsTo, and_bad, pop_none}
 use Rattle.type_stack.specs.Leading.{Leads, Weighs, Stuck, leads_step, weigh_push, stuck_push, stuck_on}
-use Rattle.type_stack.specs.declared.Stepped.{Stepped}
-use Rattle.type_stack.specs.declared.Stepped.TheVariants.{Next, Refused}
-use Rattle.type_stack.specs.declared.Top.{Top}
-use Rattle.type_stack.specs.declared.Top.TheVariants.{Empty, Entry}
+use Rattle.type_stack.specs.declared.Entry.{Entry}
+use Rattle.type_stack.specs.Answers.{Stepped, same_ok, start_is}
+use Rattle.std.specs.Prelude.{Ok, Err}
 
 -- ── pop_each ──
 
 module _ (y : StatusCode) (f : SignatureToken → Result SignatureToken) (t : SignatureToken) (ts : Signature) {a : List ℕ} {w : ℕ} {q : Stepped} (x : StepsTo (pop_one y f t) a w a q) where
   -- the first was popped and compared, which wrote nothing
-  pub pop_each_law : {n v : ℕ} → n ≡ length a → q ≡ Next v → Leads (Holds a w) (run n (pop_each y f (t ∷ ts))) (Holds a v) (run n (pop_each y f ts))
+  pub pop_each_law : {n v : ℕ} → n ≡ length a → q ≡ Ok v → Leads (Holds a w) (run n (pop_each y f (t ∷ ts))) (Holds a v) (run n (pop_each y f ts))
   unfolding pop_each
   pop_each_law i e = leads_step x e (λ _. pop_each y f ts) i
 
-  pub pop_each_bad : {z : StatusCode} → q ≡ Refused z → StepsTo (pop_each y f (t ∷ ts)) a w a (Refused z)
+  pub pop_each_bad : {z : StatusCode} → q ≡ Err z → StepsTo (pop_each y f (t ∷ ts)) a w a (Err z)
   unfolding pop_each
   pop_each_bad e = and_bad x (λ _. pop_each y f ts) e
 
 -- ── pop_n ──
 
-module _ {a : List ℕ} {w : ℕ} {q : Top} (p : TopOf a w q) (m : ℕ) where
+module _ {a : List ℕ} {w : ℕ} (m : ℕ) where
   -- the first was popped; the rest does not depend on its type
-  pub pop_n_law : (n : ℕ) {x l : ℕ} → q ≡ Entry x l → Leads (Holds a w) (run n (pop_n (suc m))) (Holds a x) (run n (pop_n m))
+  pub pop_n_law : (n : ℕ) {x : Entry} → TopOf a w (Ok x) → Leads (Holds a w) (run n (pop_n (suc m))) (Holds a x.start) (run n (pop_n m))
   unfolding run pop_n pop ◌>>=◌ top_of
-  pop_n_law n {x} e = record { stack = λ s h. below s; holds = holds; goes = goes }
+  pop_n_law n {x} p = record { stack = λ s h. below s; holds = holds; goes = goes }
     where
       below : Stack → Stack
       below [] = []
       below (t ∷ s) = s
 
-      holds : (s : Stack) → Holds a w s → Holds a x (below s)
+      holds : (s : Stack) → Holds a w s → Holds a x.start (below s)
       holds [] h = let z : ◌≡◌ {A = ℕ} 0 1 = cc (p.is [] h) in absurd (omega arith)
-      holds (t ∷ s) h = let i : x ≡ weight s = cc (p.is (t ∷ s) h) in rw i (popped h).below
+      holds (t ∷ s) h = rw (start_is (same_ok (p.is (t ∷ s) h))) (popped h).below
 
       goes : (s : Stack) → Holds a w s → run n (pop >>= (λ t. pop_n m)) s ≡ run n (pop_n m) (below s)
       goes [] h = let z : ◌≡◌ {A = ℕ} 0 1 = cc (p.is [] h) in absurd (omega arith)
       goes (t ∷ s) h = refl
 
-  pub pop_n_none : q ≡ Empty → StepsTo (pop_n (suc m)) a w a (Refused EMPTY_STACK)
+  pub pop_n_none : {v : StatusCode} → TopOf a w (Err v) → StepsTo (pop_n (suc m)) a w a (Err v)
   unfolding pop_n
-  pop_n_none e = pop_none p (λ t. pop_n m) e
+  pop_n_none p = pop_none p (λ t. pop_n m)
 
 -- ── push_each ──
 
@@ -66,7 +65,7 @@ module _ (f : SignatureToken → Result SignatureToken) (t : SignatureToken) (ts
 
   -- the first was pushed
   pub write_each :
-      {u : SignatureToken} {a b : List ℕ} {w : ℕ} {q : Stepped} {n v : ℕ} → f t ≡ ok u → StepsTo (push u) a w b q → n ≡ length a → q ≡ Next v →
+      {u : SignatureToken} {a b : List ℕ} {w : ℕ} {q : Stepped} {n v : ℕ} → f t ≡ ok u → StepsTo (push u) a w b q → n ≡ length a → q ≡ Ok v →
       Leads (Holds a w) (run n (push_each f (t ∷ ts))) (Holds b v) (run n (push_each f ts))
   write_each e x i j = rw (first_push e) (leads_step x j (λ _. push_each f ts) i)
 
@@ -89,7 +88,7 @@ module _ (f : SignatureToken → Result SignatureToken) (t : SignatureToken) (ts
 module _ (t : SignatureToken) where
   -- the first was pushed
   pub write_n :
-      (m : ℕ) {a b : List ℕ} {w : ℕ} {q : Stepped} {n v : ℕ} → StepsTo (push t) a w b q → n ≡ length a → q ≡ Next v →
+      (m : ℕ) {a b : List ℕ} {w : ℕ} {q : Stepped} {n v : ℕ} → StepsTo (push t) a w b q → n ≡ length a → q ≡ Ok v →
       Leads (Holds a w) (run n (push_n (suc m) t)) (Holds b v) (run n (push_n m t))
   unfolding push_n
   write_n m x i e = leads_step x e (λ _. push_n m t) i

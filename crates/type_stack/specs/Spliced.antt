@@ -3,6 +3,7 @@ use Rattle.std.specs.Prelude.{◌≡◌, List, [], ◌∷◌, ◌++◌, ℕ, ◌
 use Rattle.std.proofs.Common.{ap, sym, ◌∙◌, append_assoc, append-nil, arith, add-one, length-append, length-drop, drop_of_length-le, take_all, take_at, drop_at, drop-drop, length-take-le}
 use Rattle.std.proofs.lemmas.List.Edits.{sets-eq}
 use Rattle.std.proofs.Math.Seq.{drop-append_seam}
+use Rattle.std.proofs.Math.Seq.{paste}
 use borrow.Rule.Slice.PartMut.{put_mid}
 use Rattle.definitions.specs.Places.{At}
 
@@ -63,3 +64,11 @@ lent a {d} bs w e =
     let p : take (length a - w) (drop w a) ≡ drop w a = take_all (length a - w) (drop w a) (omega (arith, length-drop w a)) in
     let z : drop (length a - w) (drop w a) ≡ [] = drop_of_length-le (drop w a) {i = length a - w} (omega (arith, length-drop w a)) in
     rw (z, append-nil d, e, p, drop-drop (length bs) w a) (sym (append_assoc (take w a) bs (drop (w + length bs) a)))
+
+-- what was written over the part from w on, as long as that part
+pub lent_part : (a : List ℕ) {d : List ℕ} (bs : List ℕ) (w : ℕ) {n : ℕ} → n ≡ length bs → d ≡ bs → put_mid w n a d ≡ spliced a w bs
+lent_part a bs w e f = rw (e, f, drop-drop (length bs) w a) (sym (append_assoc (take w a) bs (drop (w + length bs) a)))
+
+-- what was moved down from further up
+pub moved : (a : List ℕ) (w from n : ℕ) → n ≡ length (take n (drop from a)) → paste a w (drop from a) n ≡ spliced a w (take n (drop from a))
+moved a w from n e = ap (λ (m : ℕ). take w a ++ take n (drop from a) ++ drop (w + m) a) e

@@ -3,7 +3,7 @@
 -- answer after.
 use Rattle.std.proofs.Math.Path.{◌≡◌, ap}
 use Rattle.std.specs.Prelude.{refl, Bool, ℕ, ◌+◌, ◌≤◌, ◌<◌}
-use Rattle.std.proofs.Common.{◌∙◌}
+use Rattle.std.proofs.Common.{sym, ◌∙◌}
 use mathlib.Core.List.{List, [], ◌∷◌}
 use Rattle.std.proofs.Math.Bool.{true, false}
 use native.Mathlib.Omega.{arith}
@@ -19,19 +19,16 @@ use Rattle.definitions.specs.Machine.{Program, Step, ◌>>=◌, ret, refuse, tak
 use Rattle.theorems.specs.Bytes.{one_type}
 use Rattle.type_stack.specs.Held.{Holds, Stacked, Here, stack_bytes, popped, pushed, entered}
 use Rattle.type_stack.specs.Tops.{TopOf, top_of, TopTwoOf, top_two_of, Topped}
-use Rattle.type_stack.specs.declared.Stepped.{Stepped}
-use Rattle.type_stack.specs.declared.Stepped.TheVariants.{Next, Refused}
-use Rattle.type_stack.specs.declared.Top.{Top}
-use Rattle.type_stack.specs.declared.Top.TheVariants.{Empty, Entry}
-use Rattle.type_stack.specs.declared.TopTwo.{TopTwo}
-use Rattle.type_stack.specs.declared.TopTwo.TheVariants.{Short, Entries}
+use Rattle.type_stack.specs.declared.Entry.{Entry}
+use Rattle.type_stack.specs.Answers.{Stepped, same_ok, same_err, start_is, len_is}
+use Rattle.std.specs.Prelude.{Ok, Err}
 
 -- the answer r and the area b afterwards, beside what the program does; a refusal leaves the whole area as it was
 unfoldable pub Agrees : List ℕ → List ℕ → Stepped → Outcome (Unit {0}) → Type 0
-Agrees a b (Next w) (got x s) = Holds b w s
-Agrees a b (Next w) (refused y) = ⊥
-Agrees a b (Refused z) (got x s) = ⊥
-Agrees a b (Refused z) (refused y) = (z ≡ y) × (b ≡ a)
+Agrees a b (Ok w) (got x s) = Holds b w s
+Agrees a b (Ok w) (refused y) = ⊥
+Agrees a b (Err z) (got x s) = ⊥
+Agrees a b (Err z) (refused y) = (z ≡ y) × (b ≡ a)
 
 -- the contract of a step: whatever stack the first w bytes of a held
 pub record StepsTo (program : Step) (a : List ℕ) (w : ℕ) (b : List ℕ) (r : Stepped) : Type 0 where
@@ -49,67 +46,65 @@ module _ {a b : List ℕ} {w : ℕ} {r : Stepped} where
   check_then y f e k = rw e k
 
 module _ {a : List ℕ} {w : ℕ} where
-  pub look_bad : {A : Type 0} {g : Result A} {y : StatusCode} (f : A → Step) → g ≡ err y → StepsTo (look g >>= f) a w a (Refused y)
+  pub look_bad : {A : Type 0} {g : Result A} {y : StatusCode} (f : A → Step) → g ≡ err y → StepsTo (look g >>= f) a w a (Err y)
   unfolding run ◌>>=◌ look Agrees
   look_bad f e = rw e (record { agrees = λ s h. (refl, refl) })
 
-  pub check_bad : {g : Bool} {y : StatusCode} (f : Unit {0} → Step) → g ≡ false → StepsTo (check g y >>= f) a w a (Refused y)
+  pub check_bad : {g : Bool} {y : StatusCode} (f : Unit {0} → Step) → g ≡ false → StepsTo (check g y >>= f) a w a (Err y)
   unfolding run ◌>>=◌ check Agrees
   check_bad f e = rw e (record { agrees = λ s h. (refl, refl) })
 
   -- a check that ends the program
-  pub check_last : {g : Bool} (y : StatusCode) → g ≡ true → StepsTo (check g y) a w a (Next w)
+  pub check_last : {g : Bool} (y : StatusCode) → g ≡ true → StepsTo (check g y) a w a (Ok w)
   unfolding run check Agrees
   check_last y e = rw e (record { agrees = λ s h. h })
 
-  pub check_last_bad : {g : Bool} {y : StatusCode} → g ≡ false → StepsTo (check g y) a w a (Refused y)
+  pub check_last_bad : {g : Bool} {y : StatusCode} → g ≡ false → StepsTo (check g y) a w a (Err y)
   unfolding run check Agrees
   check_last_bad e = rw e (record { agrees = λ s h. (refl, refl) })
 
-  pub done_here : StepsTo done a w a (Next w)
+  pub done_here : StepsTo done a w a (Ok w)
   unfolding run done Agrees
   done_here = record { agrees = λ s h. h }
 
 -- ── pops ──
 
-module _ {a : List ℕ} {w : ℕ} {q : Top} (p : TopOf a w q) where
-  pub pop_none : (f : SignatureToken → Step) → q ≡ Empty → StepsTo (pop >>= f) a w a (Refused EMPTY_STACK)
+module _ {a : List ℕ} {w : ℕ} where
+  pub pop_none : {v : StatusCode} → TopOf a w (Err v) → (f : SignatureToken → Step) → StepsTo (pop >>= f) a w a (Err v)
   unfolding run ◌>>=◌ pop Agrees top_of
-  pop_none f i = record { agrees = go }
+  pop_none {v} p f = record { agrees = go }
     where
-      go : (s : Stack) → Holds a w s → Agrees a a (Refused EMPTY_STACK) (run (length a) (pop >>= f) s)
-      go [] h = (refl, refl)
+      go : (s : Stack) → Holds a w s → Agrees a a (Err v) (run (length a) (pop >>= f) s)
+      go [] h = (same_err (p.is [] h), refl)
       go (t ∷ s) h = let z : ◌≡◌ {A = ℕ} 0 1 = cc (p.is (t ∷ s) h) in absurd (omega arith)
 
   pub pop_then :
-      {f : SignatureToken → Step} {x l : ℕ} {b : List ℕ} {r : Stepped} → q ≡ Entry x l →
-      ((t : SignatureToken) → Here a x l t → StepsTo (f t) a x b r) → StepsTo (pop >>= f) a w b r
+      {f : SignatureToken → Step} {x : Entry} {b : List ℕ} {r : Stepped} → TopOf a w (Ok x) →
+      ((t : SignatureToken) → Here a x.start x.len t → StepsTo (f t) a x.start b r) → StepsTo (pop >>= f) a w b r
   unfolding run ◌>>=◌ pop top_of
-  pop_then {f} {x} {l} {b} {r} i k = record { agrees = go }
+  pop_then {f} {x} {b} {r} p k = record { agrees = go }
     where
       go : (s : Stack) → Holds a w s → Agrees a b r (run (length a) (pop >>= f) s)
       go [] h = let z : ◌≡◌ {A = ℕ} 0 1 = cc (p.is [] h) in absurd (omega arith)
       go (t ∷ s) h =
           let o = popped h in
-          let e : x ≡ weight s = cc (p.is (t ∷ s) h) in
-          let m : l ≡ length (encode t) = cc (p.is (t ∷ s) h) in
-          (k t (record { at = rw e o.here; long = m })).agrees s (rw e o.below)
+          let n = same_ok (p.is (t ∷ s) h) in
+          (k t (record { at = rw (start_is n) o.here; long = len_is n })).agrees s (rw (start_is n) o.below)
 
-module _ {a : List ℕ} {w : ℕ} {q : TopTwo} (p : TopTwoOf a w q) where
-  pub two_none : (f : SignatureToken → SignatureToken → Step) → q ≡ Short → StepsTo (pop >>= (λ t. pop >>= f t)) a w a (Refused EMPTY_STACK)
+  pub two_none : {v : StatusCode} → TopTwoOf a w (Err v) → (f : SignatureToken → SignatureToken → Step) → StepsTo (pop >>= (λ t. pop >>= f t)) a w a (Err v)
   unfolding run ◌>>=◌ pop Agrees top_two_of
-  two_none f i = record { agrees = go }
+  two_none {v} p f = record { agrees = go }
     where
-      go : (s : Stack) → Holds a w s → Agrees a a (Refused EMPTY_STACK) (run (length a) (pop >>= (λ t. pop >>= f t)) s)
-      go [] h = (refl, refl)
-      go (t ∷ []) h = (refl, refl)
+      go : (s : Stack) → Holds a w s → Agrees a a (Err v) (run (length a) (pop >>= (λ t. pop >>= f t)) s)
+      go [] h = (same_err (p.is [] h), refl)
+      go (t ∷ []) h = (same_err (p.is (t ∷ []) h), refl)
       go (t ∷ u ∷ s) h = let z : ◌≡◌ {A = ℕ} 0 1 = cc (p.is (t ∷ u ∷ s) h) in absurd (omega arith)
 
   pub two_then :
-      {f : SignatureToken → SignatureToken → Step} {x l y m : ℕ} {b : List ℕ} {r : Stepped} → q ≡ Entries x l y m →
-      ((t u : SignatureToken) → Here a x l t → Here a y m u → StepsTo (f t u) a y b r) → StepsTo (pop >>= (λ t. pop >>= f t)) a w b r
+      {f : SignatureToken → SignatureToken → Step} {x y : Entry} {b : List ℕ} {r : Stepped} → TopTwoOf a w (Ok (x, y)) →
+      ((t u : SignatureToken) → Here a x.start x.len t → Here a y.start y.len u → StepsTo (f t u) a y.start b r) → StepsTo (pop >>= (λ t. pop >>= f t)) a w b r
   unfolding run ◌>>=◌ pop top_two_of
-  two_then {f} {x} {l} {y} {m} {b} {r} i k = record { agrees = go }
+  two_then {f} {x} {y} {b} {r} p k = record { agrees = go }
     where
       go : (s : Stack) → Holds a w s → Agrees a b r (run (length a) (pop >>= (λ t. pop >>= f t)) s)
       go [] h = let z : ◌≡◌ {A = ℕ} 0 1 = cc (p.is [] h) in absurd (omega arith)
@@ -117,38 +112,42 @@ module _ {a : List ℕ} {w : ℕ} {q : TopTwo} (p : TopTwoOf a w q) where
       go (t ∷ u ∷ s) h =
           let o = popped h in
           let n = popped o.below in
-          let e = p.is (t ∷ u ∷ s) h in
-          let d : x ≡ weight (u ∷ s) = cc in
-          let g : y ≡ weight s = cc in
-          (k t u (record { at = rw d o.here; long = cc }) (record { at = rw g n.here; long = cc })).agrees s (rw g n.below)
+          let e = same_ok (p.is (t ∷ u ∷ s) h) in
+          let d = ap (λ (q : Entry × Entry). q.0) e in
+          let g = ap (λ (q : Entry × Entry). q.1) e in
+          (k t u (record { at = rw (start_is d) o.here; long = len_is d }) (record { at = rw (start_is g) n.here; long = len_is g })).agrees s
+          (rw (start_is g) n.below)
+
+-- what a step answers that finds no operand
+pub ruleset pops = (pop_none, two_none)
 
 -- ── pushes ──
 
 module _ {a : List ℕ} {w : ℕ} (t : SignatureToken) where
-  pub push_fits : w + (length (encode t) + 2) ≤ length a → StepsTo (push t) a w (entered a w (encode t)) (Next (w + (length (encode t) + 2)))
+  pub push_fits : w + (length (encode t) + 2) ≤ length a → StepsTo (push t) a w (entered a w (encode t)) (Ok (w + (length (encode t) + 2)))
   unfolding run push Agrees weight
   push_fits f = record { agrees = go }
     where
-      go : (s : Stack) → Holds a w s → Agrees a (entered a w (encode t)) (Next (w + (length (encode t) + 2))) (run (length a) (push t) s)
+      go : (s : Stack) → Holds a w s → Agrees a (entered a w (encode t)) (Ok (w + (length (encode t) + 2))) (run (length a) (push t) s)
       go s h =
           let e : leb (weight s + (length (encode t) + 2)) (length a) ≡ true = le-leb (weight s + (length (encode t) + 2)) (length a) (let z = h.weighs in omega arith) in
           rw (e, run) (pushed h t f)
 
-  pub push_full : length a < w + (length (encode t) + 2) → StepsTo (push t) a w a (Refused NO_ROOM)
+  pub push_full : length a < w + (length (encode t) + 2) → StepsTo (push t) a w a (Err NO_ROOM)
   unfolding run push Agrees weight
   push_full f = record { agrees = go }
     where
-      go : (s : Stack) → Holds a w s → Agrees a a (Refused NO_ROOM) (run (length a) (push t) s)
+      go : (s : Stack) → Holds a w s → Agrees a a (Err NO_ROOM) (run (length a) (push t) s)
       go s h =
           let e : leb (weight s + (length (encode t) + 2)) (length a) ≡ false = lt-leb (weight s + (length (encode t) + 2)) (length a) (let z = h.weighs in omega arith) in
           rw (e, run) (refl, refl)
 
   -- the push of a type onto what is below it, where it already stands
-  pub push_stands : {v l : ℕ} → Stacked a v → Topped a v w l → At a w (encode t) → StepsTo (push t) a w a (Next v)
+  pub push_stands : {v l : ℕ} → Stacked a v → Topped a v w l → At a w (encode t) → StepsTo (push t) a w a (Ok v)
   unfolding run push Agrees weight stack_bytes
   push_stands {v} k o z = record { agrees = go }
     where
-      go : (s : Stack) → Holds a w s → Agrees a a (Next v) (run (length a) (push t) s)
+      go : (s : Stack) → Holds a w s → Agrees a a (Ok v) (run (length a) (push t) s)
       go s h =
           let y : o.type ≡ t = one_type o.type t o.here.at z in
           let m : v ≡ weight s + (length (encode t) + 2) =
@@ -198,28 +197,28 @@ nested p f g h = rw (bind_assoc p f g) h
 
 -- a step that a call has done, and that wrote nothing: so a refusal of what follows leaves the area as it was
 module _ {p : Step} {a : List ℕ} {w : ℕ} {q : Stepped} (x : StepsTo p a w a q) where
-  pub and_then : (f : Unit {0} → Step) {b : List ℕ} {v : ℕ} {r : Stepped} → q ≡ Next v → StepsTo (f tt) a v b r → StepsTo (p >>= f) a w b r
+  pub and_then : (f : Unit {0} → Step) {b : List ℕ} {v : ℕ} {r : Stepped} → q ≡ Ok v → StepsTo (f tt) a v b r → StepsTo (p >>= f) a w b r
   unfolding Agrees on_got
   and_then f {b} {v} {r} e y = record { agrees = λ s h. rw (run_bind (length a) p f s) (go (run (length a) p s) (rw e at (x.agrees s h))) }
     where
-      go : (o : Outcome (Unit {0})) → Agrees a a (Next v) o → Agrees a b r (on_got o (λ u s. run (length a) (f u) s))
+      go : (o : Outcome (Unit {0})) → Agrees a a (Ok v) o → Agrees a b r (on_got o (λ u s. run (length a) (f u) s))
       go (got u s) h = y.agrees s h
       go (refused z) h = absurd h
 
-  pub and_bad : (f : Unit {0} → Step) {z : StatusCode} → q ≡ Refused z → StepsTo (p >>= f) a w a (Refused z)
+  pub and_bad : (f : Unit {0} → Step) {z : StatusCode} → q ≡ Err z → StepsTo (p >>= f) a w a (Err z)
   unfolding Agrees on_got
   and_bad f {z} e = record { agrees = λ s h. rw (run_bind (length a) p f s) (go (run (length a) p s) (rw e at (x.agrees s h))) }
     where
-      go : (o : Outcome (Unit {0})) → Agrees a a (Refused z) o → Agrees a a (Refused z) (on_got o (λ u s. run (length a) (f u) s))
+      go : (o : Outcome (Unit {0})) → Agrees a a (Err z) o → Agrees a a (Err z) (on_got o (λ u s. run (length a) (f u) s))
       go (got u s) h = absurd h
       go (refused y) h = h
 
 -- after a step the area holds a stack again
 pub and_stacked :
-    {p : Step} {a b : List ℕ} {w v : ℕ} {q : Stepped} → StepsTo p a w b q → Stacked a w → q ≡ Next v → length b ≡ length a → Stacked b v
+    {p : Step} {a b : List ℕ} {w v : ℕ} {q : Stepped} → StepsTo p a w b q → Stacked a w → q ≡ Ok v → length b ≡ length a → Stacked b v
 unfolding Agrees
 and_stacked {p} {a} {b} {w} {v} x k i e = go (run (length a) p k.stack) (rw i at (x.agrees k.stack k.holds))
   where
-    go : (o : Outcome (Unit {0})) → Agrees a b (Next v) o → Stacked b v
+    go : (o : Outcome (Unit {0})) → Agrees a b (Ok v) o → Stacked b v
     go (got u s) h = record { stack = s; holds = h; small = let z = k.small in omega arith }
     go (refused z) h = absurd h

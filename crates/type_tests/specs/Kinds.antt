@@ -1,6 +1,7 @@
 -- What a step asks of an operand's kind: whether it is an integer or a given leaf, and what it refers to.
-use Rattle.std.specs.Prelude.{◌≡◌, refl, Bool, false, ◌&&◌, List, [], ◌∷◌, ℕ, leb, ltb, eqb}
-use Rattle.std.proofs.Common.{sym, ap, ◌∙◌, eq-eqb, ne_eqb}
+use Rattle.std.specs.Prelude.{◌≡◌, refl, Bool, false, ◌&&◌, List, [], ◌∷◌, ℕ, ◌≤◌, ◌<◌, leb, ltb, eqb}
+use Rattle.std.proofs.Common.{sym, ap, ◌∙◌, eq-eqb, ne_eqb, le-leb}
+use Rattle.std.proofs.lemmas.Bool.{lt-leb}
 use Rattle.std.proofs.Math.Decide.{ℕ_discrete}
 use Rattle.definitions.specs.SignatureToken.{SignatureToken, Bool', U8, U64, U128, Address, Signer, Vector as VectorOf, Struct as StructOf, StructInstantiation as InstantiationOf, Reference as ReferenceOf, MutableReference as MutableReferenceOf, TypeParameter as ParameterOf, same, outer, is_integer}
 use Rattle.definitions.specs.Places.{TypeAt}
@@ -79,6 +80,23 @@ integer_token (ParameterOf i) at = refl
 module _ {s : List ℕ} {at : ℕ} {r : Token} (w : TokenAt s at r) where
   pub integer_by : {b : Bool} → b ≡ integer_of r → IntegerAt s at b
   integer_by e p = e ∙ ap integer_of (w p) ∙ sym (integer_token p.type at)
+
+  -- a leaf is an integer by its command
+  pub integer_leaf : {b : ℕ} → r ≡ Leaf b → 2 ≤ b → IntegerAt s at (ltb b 5)
+  integer_leaf {b} e k = integer_by (rw (e, le-leb 2 b k))
+
+  pub integer_low : {b : ℕ} → r ≡ Leaf b → b < 2 → IntegerAt s at (leb 2 b)
+  integer_low {b} e k = integer_by (rw (e, lt-leb 2 b k))
+
+  pub integer_not : ((b : ℕ) → r ≡ Leaf b → ⊥) → IntegerAt s at false
+  integer_not f = integer_by (go r f)
+    where
+      go : (t : Token) → ((b : ℕ) → t ≡ Leaf b → ⊥) → false ≡ integer_of t
+      go (Leaf b) g = absurd (g b refl)
+      go (Wrapped w x) g = refl
+      go (Struct h) g = refl
+      go (StructInstantiation h n x) g = refl
+      go (TypeParameter i) g = refl
 
   pub referent_by_law : {q : Referent} → q ≡ referent_of r → ReferentAt s at q
   referent_by_law e p = e ∙ ap referent_of (w p)

@@ -6,15 +6,15 @@ use native.Mathlib.Omega.{arith}
 use lib.ListN.{length, get_or, take, set, length-append, length-set}
 use lib.Seq.{take-suc-set}
 use Rattle.status.specs.declared.StatusCode.{StatusCode}
-use Rattle.status.specs.declared.StatusCode.TheVariants.{SHORT}
 use Rattle.definitions.specs.Bytecode.{Bytecode}
 use Rattle.definitions.specs.CompiledUnit.{Head}
 use Rattle.definitions.specs.Reading.{read, stop, Reader, next, ◌>>=◌, give, here, u16, many, Placed, placed}
 use Rattle.definitions.specs.Commands.{Commands, commands_of}
 use Rattle.definitions.specs.Reader.{instruction, code}
-use Rattle.record_reader.specs.Alike.{byte_next, byte_short}
+use Rattle.record_reader.specs.Alike.{byte_next}
 use Rattle.record_reader.specs.Ends.{Reaches, reads_within}
-use Rattle.unit.specs.declared.ReadTable.{ReadTable}
+use Rattle.std.specs.Prelude.{Ok, Err}
+use Rattle.record_reader.specs.declared.ReadError.{ReadError}
 use Rattle.unit.specs.Outline.{starts, places}
 use Rattle.unit.specs.Filled.{Room, Filled, FilledBy, table_of, CodeAnswered}
 use Rattle.unit.specs.Parts.{next_assoc}
@@ -23,17 +23,9 @@ use Rattle.unit.proofs.TableLoop.{onto, onto_one, onto_none, answers_read, answe
 -- ── the count ──
 
 module _ (s : List ℕ) (at : ℕ) where
-  pub u16_next : at + 1 < length s → u16 s at ≡ read (get_or s at 0 + 256 * get_or s (at + 1) 0) (at + 1 + 1)
+  pub u16_next : at + 2 ≤ length s → u16 s at ≡ read (get_or s at 0 + 256 * get_or s (at + 1) 0) (at + 2)
   unfolding u16 ◌>>=◌ next give
-  u16_next h = rw (byte_next s at (omega arith), byte_next s (at + 1) h)
-
-  pub u16_short : length s ≤ at → u16 s at ≡ stop SHORT (length s)
-  unfolding u16 ◌>>=◌ next
-  u16_short h = rw (byte_short s at h)
-
-  pub u16_cut : at < length s → length s ≤ at + 1 → u16 s at ≡ stop SHORT (length s)
-  unfolding u16 ◌>>=◌ next
-  u16_cut h k = rw (byte_next s at h, byte_short s (at + 1) k)
+  u16_next h = let z : at + 1 + 1 ≡ at + 2 = omega arith in rw (byte_next s at (omega arith), byte_next s (at + 1) (omega arith)) (ap (read (get_or s at 0 + 256 * get_or s (at + 1) 0)) z)
 
 -- ── a turn of the definition ──
 
@@ -49,7 +41,7 @@ one_more body n s at = simp next_assoc
 -- n of the instructions were read, and their places are in the index
 pub record InCode {A : Type 0} (body : Reader A) (s : List ℕ) (from base count : ℕ) (before after : List ℕ) (at n : ℕ) : Type 0 where
   pub acc : List (Placed A)
-  pub whole : many count (placed body) s (from + 1 + 1) ≡ onto acc (many (count - n) (placed body) s at)
+  pub whole : many count (placed body) s (from + 2) ≡ onto acc (many (count - n) (placed body) s at)
   pub placed : take (base + n) after ≡ take base before ++ starts acc
   pub size : length acc ≡ n
   pub turns : from + n ≤ at
@@ -59,15 +51,15 @@ pub record InCode {A : Type 0} (body : Reader A) (s : List ℕ) (from base count
   pub long : length after ≡ length before
 
 pub code_start :
-    {A : Type 0} (body : Reader A) {s : List ℕ} {from base : ℕ} (count : ℕ) {index : List ℕ} → Room s from base index → from + 1 < length s →
-    InCode body s from base count index index (from + 1 + 1) 0
+    {A : Type 0} (body : Reader A) {s : List ℕ} {from base at : ℕ} (count : ℕ) {index : List ℕ} → Room s from base index → (at ≡ from + 2) × (at ≤ length s) →
+    InCode body s from base count index index at 0
 unfolding starts
-code_start body {s} {from} {base} count room l =
+code_start body {s} {from} {base} {at} count room l =
     let q : count - 0 ≡ count = omega arith in
     let r : base + 0 ≡ base = omega arith in
     record {
       acc = [];
-      whole = rw q (onto_none (many count (placed body) s (from + 1 + 1)));
+      whole = rw (q, l.0) (onto_none (many count (placed body) s (from + 2)));
       placed = rw (r, append-nil);
       size = refl;
       turns = omega arith;
@@ -105,11 +97,11 @@ module _ {A : Type 0} {body : Reader A} {s : List ℕ} {from base count : ℕ} {
           long = length-set after (base + n) at ∙ v.long;
         }
 
-    pub code_refused : (w : StatusCode) (p : ℕ) → body s at ≡ stop w p → many count (placed body) s (from + 1 + 1) ≡ stop w p
+    pub code_refused : (w : StatusCode) (p : ℕ) → body s at ≡ stop w p → many count (placed body) s (from + 2) ≡ stop w p
     unfolding onto next
     code_refused w p r = v.whole ∙ rw (turn, r)
 
-  pub code_done : count ≤ n → many count (placed body) s (from + 1 + 1) ≡ read v.acc at
+  pub code_done : count ≤ n → many count (placed body) s (from + 2) ≡ read v.acc at
   unfolding onto next many give
   code_done h = let z : count - n ≡ 0 = omega arith in v.whole ∙ rw z (rw append-nil)
 
@@ -135,8 +127,8 @@ module _ (s : List ℕ) (from : ℕ) (commands : Commands) where
 
 module _ (s : List ℕ) (from base : ℕ) (before after : List ℕ) where
   pub code_answers_refused :
-      {w : StatusCode} {p : ℕ} → ((head : Head) → places (code (commands_of head)) s from ≡ stop w p) →
-      CodeAnswered s from base before after (ReadTable.Refused w p)
+      {w : ReadError} → ((head : Head) → places (code (commands_of head)) s from ≡ stop w.status w.at) →
+      CodeAnswered s from base before after (Err w)
   code_answers_refused q =
       record {
         answers = λ head. (answers_refused s before after base (places (code (commands_of head)) s from) (q head)).0;
@@ -145,11 +137,11 @@ module _ (s : List ℕ) (from base : ℕ) (before after : List ℕ) where
 
   pub code_answers_read :
       {at n count : ℕ} → ((head : Head) → InCode (instruction (commands_of head)) s from base count before after at n) →
-      u16 s from ≡ read count (from + 1 + 1) → count ≤ n → CodeAnswered s from base before after (ReadTable.Records n at)
-  code_answers_read {at} {n} v q h = record { answers = λ head. (both head).0; fills = λ head. (both head).1 }
+      u16 s from ≡ read count (from + 2) → count ≤ n → CodeAnswered s from base before after (Ok (record { count = count; next = at }))
+  code_answers_read {at} {n} {count} v q h = record { answers = λ head. (both head).0; fills = λ head. (both head).1 }
     where
       both : (head : Head) →
-          (ReadTable.Records n at ≡ table_of (places (code (commands_of head)) s from)) × FilledBy (λ ps. ps) s base before (places (code (commands_of head)) s from) after
+          (Ok (record { count = count; next = at }) ≡ table_of (places (code (commands_of head)) s from)) × FilledBy (λ ps. ps) s base before (places (code (commands_of head)) s from) after
       both head =
           answers_read s before after base (places (code (commands_of head)) s from)
-          (code_reads s from (commands_of head) q (code_done (v head) h)) (starts_size (v head).acc (v head).size) (code_filled (v head))
+          (code_reads s from (commands_of head) q (code_done (v head) h)) (starts_size (v head).acc (omega (arith, (v head).size, (v head).upto))) (code_filled (v head))

@@ -1,12 +1,13 @@
 -- What is written into the index by one function after another: the places of both, in turn.
-use mathlib.Core.Path.{◌≡◌, ap, ◌∙◌}
+use mathlib.Core.Path.{◌≡◌, sym, ap, ◌∙◌}
 use mathlib.Core.List.{List, ◌++◌, append_assoc}
 use Prim.Native.Nat.{ℕ, ◌+◌, ◌≤◌}
 use native.Mathlib.Omega.{arith}
 use lib.ListN.{length, take, length-append}
-use Rattle.status.specs.declared.StatusCode.{StatusCode}
 use Rattle.definitions.specs.Reading.{Read, read, stop}
-use Rattle.unit.specs.declared.ReadTable.{ReadTable}
+use Rattle.std.specs.Prelude.{Ok, Err}
+use Rattle.record_reader.specs.declared.ReadError.{ReadError}
+use Rattle.unit.specs.declared.Records.{Records}
 use Rattle.unit.specs.Filled.{Room, Filled, FilledBy, table_of}
 
 module _ {s before mid : List ℕ} {base : ℕ} {ps : List ℕ} {e : ℕ} (f : Filled s base before ps e mid) where
@@ -43,15 +44,16 @@ pub record Got (s before after : List ℕ) (base : ℕ) (x : Read (List ℕ)) (c
 
 module _ {s before after : List ℕ} {base : ℕ} (x : Read (List ℕ)) where
   pub got_it :
-      {from count e : ℕ} → Room s from base before → FilledBy (λ ps. ps) s base before x after → length after ≡ length before →
-      table_of x ≡ ReadTable.Records count e → Got s before after base x count e
+      {from : ℕ} {r : Records} → Room s from base before → FilledBy (λ ps. ps) s base before x after → length after ≡ length before →
+      Ok r ≡ table_of x → Got s before after base x r.count r.next
   unfolding table_of FilledBy
-  got_it {from} {count} {e} room f long k = go x f k
+  got_it {from} {r} room f long k = go x f k
     where
-      go : (y : Read (List ℕ)) → FilledBy (λ ps. ps) s base before y after → table_of y ≡ ReadTable.Records count e → Got s before after base y count e
+      go : (y : Read (List ℕ)) → FilledBy (λ ps. ps) s base before y after → Ok r ≡ table_of y → Got s before after base y r.count r.next
       go (read ps d) f k =
-          let n : length ps ≡ count = cc in
-          let z : d ≡ e = cc in
+          let q : r ≡ record { count = length ps; next = d } = cc in
+          let n : length ps ≡ r.count = sym (ap (λ (r : Records). r.count) q) in
+          let z : d ≡ r.next = sym (ap (λ (r : Records). r.next) q) in
           let there = rw z at f in
           record {
             got = ps;
@@ -60,11 +62,11 @@ module _ {s before after : List ℕ} {base : ℕ} (x : Read (List ℕ)) where
             filled = there;
             inside = omega (arith, room.below, room.inside, room.wide);
             long = long;
-            room = room_after there room long (base + count) (omega arith);
+            room = room_after there room long (base + r.count) (omega arith);
           }
       go (stop w p) f k = let z : ◌≡◌ {A = ℕ} 0 1 = cc in absurd (omega arith)
 
-pub got_stop : (x : Read (List ℕ)) {w : StatusCode} {p : ℕ} → table_of x ≡ ReadTable.Refused w p → x ≡ stop w p
+pub got_stop : (x : Read (List ℕ)) {w : ReadError} → Err w ≡ table_of x → x ≡ stop w.status w.at
 unfolding table_of
 got_stop (read ps d) k = let z : ◌≡◌ {A = ℕ} 0 1 = cc in absurd (omega arith)
 got_stop (stop v o) k = cc

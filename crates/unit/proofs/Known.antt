@@ -5,7 +5,10 @@ use Prim.Native.Nat.{ℕ, zero, suc, ◌+◌, ◌-◌, ◌≤◌, ◌<◌}
 use native.Mathlib.Nat.{add-zero, add-suc, suc-add, not-suc-le-zero}
 use native.Mathlib.Omega.{arith}
 use lib.Dec.{T}
-use Rattle.definitions.specs.CompiledUnit.{Head, Module, Script}
+use Rattle.definitions.specs.CompiledUnit as defs
+use Rattle.definitions.specs.CompiledUnit.{Module, Script}
+use Rattle.unit.specs.declared.Head.{Head}
+use Rattle.unit.specs.Filled.{head_of}
 use Rattle.definitions.specs.Commands.{commands_of, one_of, known}
 
 -- two Bools are equal
@@ -21,7 +24,7 @@ agree_same false true t = absurd t
 agree_same false false t = refl
 
 -- whether known commands are those that b says, at each of the n numbers from lo on
-abbrev all : Head → Bool → ℕ → ℕ → Bool
+abbrev all : defs.Head → Bool → ℕ → ℕ → Bool
 all head b lo zero = true
 all head b lo (suc n) = agree b (known (commands_of head) lo) && all head b (suc lo) n
 
@@ -29,7 +32,7 @@ both : (a b : Bool) → T (a && b) → T a × T b
 both true b t = (tt, t)
 both false b t = absurd t
 
-module _ (head : Head) (b : Bool) where
+module _ (head : defs.Head) (b : Bool) where
   at_each : (n lo : ℕ) → T (all head b lo n) → (i : ℕ) → i < n → b ≡ known (commands_of head) (lo + i)
   at_each zero lo t i h = absurd (not-suc-le-zero h)
   at_each (suc n) lo t zero h = rw (add-zero lo) (agree_same b (known (commands_of head) lo) (both (agree b (known (commands_of head) lo)) (all head b (suc lo) n) t).0)
@@ -44,13 +47,13 @@ module _ (head : Head) (b : Bool) where
 
 -- the same under either head
 known_under_both :
-    (b : Bool) (lo n : ℕ) → T (all Module b lo n) → T (all Script b lo n) → (head : Head) {c : ℕ} → lo ≤ c → c < lo + n → b ≡ known (commands_of head) c
+    (b : Bool) (lo n : ℕ) → T (all Module b lo n) → T (all Script b lo n) → (head : defs.Head) {c : ℕ} → lo ≤ c → c < lo + n → b ≡ known (commands_of head) c
 known_under_both b lo n t u Module l h = known_between Module b lo n t l h
 known_under_both b lo n t u Script l h = known_between Script b lo n u l h
 
 -- ── 10 to 13 and 18 to 1B under either head, 14 to 17 in a module ──
 
-module _ (head : Head) (c : ℕ) where
+module _ (head : defs.Head) (c : ℕ) where
   pub known_handles : 0x10 ≤ c → c < 0x14 → true ≡ known (commands_of head) c
   unfolding known one_of
   known_handles = known_under_both true 0x10 4 tt tt head
@@ -67,11 +70,17 @@ module _ (head : Head) (c : ℕ) where
   unfolding known one_of
   unknown_above = known_under_both false 0x1C 228 tt tt head
 
-module _ {c : ℕ} (l : 0x14 ≤ c) (h : c < 0x18) where
-  pub known_definitions : true ≡ known (commands_of Module) c
+module _ (head : Head) (c : ℕ) where
+  pub known_definitions : head ≡ Head.Module → 0x14 ≤ c → c < 0x18 → true ≡ known (commands_of (head_of head)) c
   unfolding known one_of
-  known_definitions = known_between Module true 0x14 4 tt {c = c} l h
+  known_definitions q l h = rw q (known_between Module true 0x14 4 tt {c = c} l h)
 
-  pub unknown_definitions : false ≡ known (commands_of Script) c
+  pub unknown_definitions : (head ≡ Head.Module → ⊥) → 0x14 ≤ c → c < 0x18 → false ≡ known (commands_of (head_of head)) c
   unfolding known one_of
-  unknown_definitions = known_between Script false 0x14 4 tt {c = c} l h
+  unknown_definitions f l h = go head f
+    where
+      go : (k : Head) → (k ≡ Head.Module → ⊥) → false ≡ known (commands_of (head_of k)) c
+      go Head.Module f = absurd (f refl)
+      go Head.Script f = known_between Script false 0x14 4 tt {c = c} l h
+
+pub ruleset known_told = (known_handles, known_last, unknown_below, unknown_above, known_definitions, unknown_definitions)

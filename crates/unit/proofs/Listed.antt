@@ -2,12 +2,14 @@
 use mathlib.Core.Path.{◌≡◌, refl, sym, ap, ◌∙◌}
 use mathlib.Core.Bool.{Bool, true, false, ◌&&◌}
 use mathlib.Core.List.{List, [], ◌∷◌, ◌++◌}
-use Prim.Native.Nat.{ℕ, ◌+◌, ◌<◌}
+use Prim.Native.Nat.{ℕ, ◌+◌, ◌≤◌}
 use native.Mathlib.Omega.{arith}
 use borrow.Author.Tests.{eq-eqb, ne_eqb}
 use lib.Dec.{leb, ltb}
-use lib.ListN.{length, get_or, length-append, length-map, get_or-append}
-use Rattle.status.specs.declared.StatusCode.{StatusCode}
+use lib.ListN.{length, take, length-append, length-map}
+use Rattle.std.proofs.Common.{length-take}
+use Rattle.std.proofs.Math.Seq.{drop-append_seam, take-append_seam}
+use Rattle.std.proofs.lemmas.List.{drop-take, take-take}
 use Rattle.status.specs.declared.StatusCode.TheVariants.{BLOCK, TRAILING}
 use Rattle.definitions.specs.Bytecode.{Bytecode}
 use Rattle.definitions.specs.CompiledUnit.{Block}
@@ -15,12 +17,13 @@ use Rattle.definitions.specs.Reading.{read, stop, Reader, next, ◌>>=◌, ◌>>
 use Rattle.definitions.specs.Commands.{Commands}
 use Rattle.definitions.specs.Reader.{table, due, code, end, blocks_within, block}
 use Rattle.record_reader.specs.BodyLaws.{body_block}
-use Rattle.unit.specs.declared.ReadListing.{ReadListing}
+use Rattle.std.specs.Prelude.{Ok, Err, drop}
+use Rattle.record_reader.specs.declared.ReadError.{ReadError}
 use Rattle.unit.specs.Outline.{starts, places, record_places, in_listing, unit_listing}
 use Rattle.unit.specs.Filled.{Room, Filled, FilledBy, listing_of, BlocksAt}
 use Rattle.unit.specs.Parts.{named}
 use Rattle.unit.proofs.Filling.{Got, filled_then, room_later}
-use Rattle.unit.specs.Stand.{due_got, table_stands, places_got, places_stopped, entry, entry_there}
+use Rattle.unit.specs.Stand.{due_got, table_stands, places_got, places_stopped}
 
 -- a table of the definition, from the places that were read
 pub record TableGot {A : Type 0} (m : Reader (List (Placed A))) (s : List ℕ) (at : ℕ) (ps : List ℕ) (e : ℕ) : Type 0 where
@@ -42,14 +45,25 @@ blocks_end n (b ∷ bs) s at {u} {e} h =
     go ih true h = ih h
     go ih false h = let z : ◌≡◌ {A = ℕ} 0 1 = cc in absurd (omega arith)
 
+-- the first of the places that were written into the index
+slice :
+    {s before qs after : List ℕ} {base e : ℕ} → Filled s base before qs e after → base ≤ length before → (ps rs : List ℕ) → qs ≡ ps ++ rs →
+    take (length ps) (drop base after) ≡ ps
+slice {s} {before} {qs} {after} {base} {e} f l ps rs q =
+    let n : length (take base before) ≡ base = length-take base before ∙ omega arith in
+    let all : take (length qs) (drop base after) ≡ qs =
+    sym (drop-take base (length qs) after) ∙ ap (drop base) f.placed ∙ rw n at (drop-append_seam (take base before) qs) in
+    let m : length ps ≤ length qs = omega (arith, ap length q, length-append ps rs) in
+    sym (take-take (length ps) (length qs) (drop base after) m) ∙ ap (take (length ps)) (all ∙ q) ∙ take-append_seam ps rs
+
 module _ (commands : Commands) (s : List ℕ) (from : ℕ) where
   -- the answer and the index after a refusal
-  abbrev ListingRefused : ℕ → (before after : List ℕ) → StatusCode → ℕ → Type 0
-  ListingRefused base before after w p =
-      (ReadListing.Refused w p ≡ listing_of (unit_listing commands s from)) × FilledBy in_listing s base before (unit_listing commands s from) after
+  abbrev ListingRefused : ℕ → (before after : List ℕ) → ReadError → Type 0
+  ListingRefused base before after w =
+      (Err w ≡ listing_of (unit_listing commands s from)) × FilledBy in_listing s base before (unit_listing commands s from) after
 
   pub listing_refused_1 :
-      {w : StatusCode} {p : ℕ} (base : ℕ) (before after : List ℕ) → record_places commands 0x1A s from ≡ stop w p → ListingRefused base before after w p
+      {w : ReadError} (base : ℕ) (before after : List ℕ) → record_places commands 0x1A s from ≡ stop w.status w.at → ListingRefused base before after w
   unfolding unit_listing ◌>>=◌ next listing_of FilledBy
   listing_refused_1 base before after q =
       rw (places_stopped (table commands 0x1A block) s from (sym (named commands s 0x1A (body_block commands) from) ∙ q)) (refl, tt)
@@ -59,12 +73,12 @@ module _ (commands : Commands) (s : List ℕ) (from : ℕ) where
     blocks_got : TableGot (table commands 0x1A block) s from g1.got e1
     blocks_got = table_got (table commands 0x1A block) s from (sym (named commands s 0x1A (body_block commands) from) ∙ g1.reads)
 
-    pub listing_refused_2 : {w : StatusCode} {p : ℕ} (after : List ℕ) → due commands 0x1B s e1 ≡ stop w p → ListingRefused base before after w p
+    pub listing_refused_2 : {w : ReadError} (after : List ℕ) → due commands 0x1B s e1 ≡ stop w.status w.at → ListingRefused base before after w
     unfolding unit_listing ◌>>=◌ ◌>>◌ next listing_of FilledBy
     listing_refused_2 after q = rw (blocks_got.reads, q) (refl, tt)
 
     module _ {u : Unit {0}} {e2 : ℕ} (d : due commands 0x1B s e1 ≡ read u e2) where
-      pub listing_refused_3 : {w : StatusCode} {p : ℕ} (after : List ℕ) → places (code commands) s e2 ≡ stop w p → ListingRefused base before after w p
+      pub listing_refused_3 : {w : ReadError} (after : List ℕ) → places (code commands) s e2 ≡ stop w.status w.at → ListingRefused base before after w
       unfolding unit_listing ◌>>=◌ ◌>>◌ next listing_of FilledBy
       listing_refused_3 after q = rw (blocks_got.reads, d, places_stopped (code commands) s e2 q) (refl, tt)
 
@@ -77,7 +91,7 @@ module _ (commands : Commands) (s : List ℕ) (from : ℕ) where
         code_got : TableGot (code commands) s e2 g2.got e3
         code_got = table_got (code commands) s e2 g2.reads
 
-        pub listing_trailing : (after : List ℕ) → (e3 ≡ length s → ⊥) → ListingRefused base before after TRAILING e3
+        pub listing_trailing : (after : List ℕ) → (e3 ≡ length s → ⊥) → ListingRefused base before after (record { status = TRAILING; at = e3 })
         unfolding unit_listing ◌>>=◌ ◌>>◌ next end listing_of FilledBy
         listing_trailing after k = rw (blocks_got.reads, d, code_got.reads, ne_eqb e3 (length s) k, end) (refl, tt)
 
@@ -86,30 +100,19 @@ module _ (commands : Commands) (s : List ℕ) (from : ℕ) where
           filled = filled_then g1.filled (omega (arith, g1.counted)) g2.filled
 
           -- the blocks stand at the places that the index has
-          pub blocks_at : BlocksAt s m2 base n1
-          unfolding starts
-          blocks_at =
-              let m : length blocks_got.list ≡ length g1.got =
-              sym (length-map blocks_got.list (λ (p : Placed Block). p.start)) ∙ ap length blocks_got.places_are in
-              record {
-                blocks = blocks_got.list;
-                counted = m ∙ g1.counted;
-                indexed = λ i h.
-                    let j : i < length g1.got = omega (arith, g1.counted) in
-                    let both : i < length (g1.got ++ g2.got) = omega (arith, length-append g1.got g2.got) in (
-                      entry_there filled g1.inside both,
-                      entry filled g1.inside both ∙ get_or-append g1.got g2.got 0 i j
-                          ∙ ap (λ (ps : List ℕ). get_or ps i 0) (sym blocks_got.places_are),
-                    );
-                stand = table_stands block 0x1A s commands from blocks_got.list e1 blocks_got.reads;
-              }
+          pub blocks_at : BlocksAt s (take n1 (drop base m2))
+          blocks_at = record {
+            blocks = blocks_got.list;
+            placed = rw (← g1.counted) (slice filled g1.inside g1.got g2.got refl) ∙ sym blocks_got.places_are;
+            stand = table_stands block 0x1A s commands from blocks_got.list e1 blocks_got.reads;
+          }
 
           size : n2 ≡ length code_got.list
           unfolding starts
           size = sym g2.counted ∙ sym (sym (length-map code_got.list (λ (p : Placed Bytecode). p.start)) ∙ ap length code_got.places_are)
 
           pub listing_refused_4 :
-              {w : StatusCode} {p : ℕ} (after : List ℕ) → blocks_within n2 blocks_at.blocks s e3 ≡ stop w p → ListingRefused base before after w p
+              {w : ReadError} (after : List ℕ) → blocks_within n2 blocks_at.blocks s e3 ≡ stop w.status w.at → ListingRefused base before after w
           unfolding unit_listing ◌>>=◌ ◌>>◌ next end blocks_at listing_of FilledBy
           listing_refused_4 after q = rw (blocks_got.reads, d, code_got.reads, eq-eqb e3 (length s) last, end, ← size, q) (refl, tt)
 
@@ -119,7 +122,7 @@ module _ (commands : Commands) (s : List ℕ) (from : ℕ) where
             listing_read = rw (blocks_got.reads, d, code_got.reads, eq-eqb e3 (length s) last, end, ← size, q)
 
             pub listing_answers :
-                (ReadListing.Counts n1 n2 ≡ listing_of (unit_listing commands s from))
+                (Ok (record { blocks = n1; code = n2 }) ≡ listing_of (unit_listing commands s from))
                 × FilledBy in_listing s base before (unit_listing commands s from) m2
             unfolding listing_of FilledBy in_listing
             listing_answers =

@@ -12,34 +12,30 @@ use Rattle.status.specs.declared.StatusCode.{StatusCode}
 use Rattle.definitions.specs.Reading.{Read, read, stop, Reader, next, ◌>>=◌, ◌>>◌, give, here, byte, opens, Placed}
 use Rattle.definitions.specs.Commands.{Commands, known}
 use Rattle.definitions.specs.Reader.{table_within, table}
-use Rattle.record_reader.specs.declared.ReadTo.TheVariants.{Next, Refused}
+use Rattle.std.specs.Prelude.{Result, Ok, Err, IsErrAnd}
+use Rattle.std.proofs.lemmas.Result.{err_from_is_err_and}
+use Rattle.record_reader.specs.declared.ReadError.{ReadError}
 use Rattle.record_reader.specs.ReadTo.{read_to}
 use Rattle.record_reader.specs.Alike.{byte_next}
 use Rattle.record_reader.specs.Ends.{Reaches, reads_within}
 use Rattle.record_reader.specs.Bodies.{body_of}
-use Rattle.unit.specs.declared.ReadTable.{ReadTable}
 use Rattle.unit.specs.Outline.{starts, places, record_places}
 use Rattle.unit.specs.Filled.{Room, Filled, FilledBy, table_of}
 
 -- what a function's answer says of what was read
-pub got_next : {A : Type 0} (x : Read A) (e : ℕ) → read_to x ≡ Next e → (a : A) × (x ≡ read a e)
+pub got_next : {A : Type 0} (x : Read A) {e : ℕ} → Ok e ≡ read_to x → (a : A) × (x ≡ read a e)
 unfolding read_to
-got_next (read a m) e h = (a, cc)
-got_next (stop w p) e h = let z : ◌≡◌ {A = ℕ} 0 1 = cc in absurd (omega arith)
+got_next (read a m) h = (a, cc)
+got_next (stop w p) h = let z : ◌≡◌ {A = ℕ} 0 1 = cc in absurd (omega arith)
 
-pub got_refused : {A : Type 0} (x : Read A) (w : StatusCode) (p : ℕ) → read_to x ≡ Refused w p → x ≡ stop w p
+pub got_refused : {A : Type 0} (x : Read A) {w : ReadError} → Err w ≡ read_to x → x ≡ stop w.status w.at
 unfolding read_to
-got_refused (read a m) w p h = let z : ◌≡◌ {A = ℕ} 0 1 = cc in absurd (omega arith)
-got_refused (stop v q) w p h = cc
+got_refused (read a m) h = let z : ◌≡◌ {A = ℕ} 0 1 = cc in absurd (omega arith)
+got_refused (stop v q) h = cc
 
--- and the other way round
-pub to_next : {A : Type 0} {x : Read A} {a : A} {e : ℕ} → x ≡ read a e → Next e ≡ read_to x
-unfolding read_to
-to_next q = rw q
-
-pub to_refused : {A : Type 0} {x : Read A} {w : StatusCode} {p : ℕ} → x ≡ stop w p → Refused w p ≡ read_to x
-unfolding read_to
-to_refused q = rw q
+-- a refusal that goes up with another type beside it is the same refusal
+pub same_refusal : {T : Type 0} {r : Result T ReadError} {w : ReadError} → IsErrAnd r (λ d. d ≡ w) → r ≡ Err w
+same_refusal {T} {r} {w} h = let p = err_from_is_err_and r h in p.1 ∙ ap Err p.2
 
 -- ── a turn of the definition ──
 
@@ -153,12 +149,12 @@ module _ {A : Type 0} {body : Reader A} {s : List ℕ} {c from base : ℕ} {befo
 module _ (s before after : List ℕ) (base : ℕ) (x : Read (List ℕ)) where
   pub answers_read :
       {n : ℕ} {ps : List ℕ} {e : ℕ} → x ≡ read ps e → length ps ≡ n → Filled s base before ps e after →
-      (ReadTable.Records n e ≡ table_of x) × FilledBy (λ ps. ps) s base before x after
+      (Ok (record { count = n; next = e }) ≡ table_of x) × FilledBy (λ ps. ps) s base before x after
   unfolding table_of FilledBy
-  answers_read {n} {ps} {e} q k f = rw q (ap (λ (m : ℕ). ReadTable.Records m e) (sym k), f)
+  answers_read {n} {ps} {e} q k f = rw q (ap (λ (m : ℕ). Ok (record { count = m; next = e })) (sym k), f)
 
   pub answers_refused :
-      {w : StatusCode} {p : ℕ} → x ≡ stop w p → (ReadTable.Refused w p ≡ table_of x) × FilledBy (λ ps. ps) s base before x after
+      {w : ReadError} → x ≡ stop w.status w.at → (Err w ≡ table_of x) × FilledBy (λ ps. ps) s base before x after
   unfolding table_of FilledBy
   answers_refused q = rw q (refl, tt)
 

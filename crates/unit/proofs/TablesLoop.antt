@@ -7,8 +7,8 @@ use lib.ListN.{length, get_or, set, replicate, length-append, length-replicate}
 use Rattle.status.specs.declared.StatusCode.{StatusCode}
 use Rattle.definitions.specs.Reading.{read, stop, next, ◌>>=◌, give}
 use Rattle.definitions.specs.Commands.{Commands}
-use Rattle.record_reader.specs.declared.ReadTo.{ReadTo}
-use Rattle.record_reader.specs.declared.ReadTo.TheVariants.{Next, Refused}
+use Rattle.std.specs.Prelude.{Result, Ok, Err}
+use Rattle.record_reader.specs.declared.ReadError.{ReadError}
 use Rattle.record_reader.specs.ReadTo.{read_to}
 use Rattle.unit.specs.Outline.{joined, base_from, record_places, tables_within, table_places}
 use Rattle.unit.specs.Filled.{Room, Filled, FilledBy, Rows, RowsBy}
@@ -99,18 +99,18 @@ module _ {commands : Commands} {s before after bases : List ℕ} {at base i : �
 -- ── what the function answers ──
 
 -- the answer, the index and the bases
-abbrev Answered : Commands → (s before after bases : List ℕ) → ReadTo → Type 0
+abbrev Answered : Commands → (s before after bases : List ℕ) → Result ℕ ReadError → Type 0
 Answered commands s before after bases r =
     (r ≡ read_to (table_places commands s 1)) × (FilledBy joined s 0 before (table_places commands s 1) after × RowsBy (table_places commands s 1) bases)
 
 module _ (commands : Commands) (s before : List ℕ) where
   pub tables_answer_refused :
-      (after bases : List ℕ) {w : StatusCode} {p : ℕ} → table_places commands s 1 ≡ stop w p → Answered commands s before after bases (Refused w p)
+      (after bases : List ℕ) {w : ReadError} → table_places commands s 1 ≡ stop w.status w.at → Answered commands s before after bases (Err w)
   unfolding read_to FilledBy RowsBy
   tables_answer_refused after bases q = rw q (refl, (tt, tt))
 
   pub tables_answer :
       {after bases : List ℕ} {at base i : ℕ} (v : InTables commands s before after bases at base i) → 9 ≤ i →
-      Answered commands s before after bases (Next at)
+      Answered commands s before after bases (Ok at)
   unfolding read_to FilledBy RowsBy
   tables_answer v h = rw (tables_done v h) (refl, (v.filled, v.rows))

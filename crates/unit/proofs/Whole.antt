@@ -5,23 +5,21 @@ use Prim.Native.Nat.{ℕ, zero, suc, ◌+◌, ◌-◌, ◌≤◌, ◌<◌}
 use native.Mathlib.Omega.{arith}
 use borrow.Author.Tests.{le-leb, lt-leb}
 use lib.ListN.{length, get_or, take, length-append, length-map}
-use Rattle.status.specs.declared.StatusCode.{StatusCode}
 use Rattle.status.specs.declared.StatusCode.TheVariants.{TOO_LONG, SHORT, COMMAND}
 use Rattle.definitions.specs.SignatureToken.{Signature}
 use Rattle.definitions.specs.CompiledUnit as defs
 use Rattle.definitions.specs.Reading.{Read, read, stop, next, ◌>>=◌, ◌>>◌, give, fail, here}
 use Rattle.definitions.specs.Commands.{Commands, commands_of}
 use Rattle.definitions.specs.Reader.{Decoded, items, due, function_view, unit_under, unit_after_head, head_command, HeadCommand, unopened, unit, read_unit}
-use Rattle.record_reader.specs.declared.ReadTo.{ReadTo}
-use Rattle.record_reader.specs.declared.ReadTo.TheVariants.{Next, Refused}
+use Rattle.std.specs.Prelude.{Result, Ok, Err}
+use Rattle.record_reader.specs.declared.ReadError.{ReadError}
 use Rattle.record_reader.specs.ReadTo.{read_to}
 use Rattle.record_reader.specs.Alike.{byte_next, byte_short}
 use Rattle.record_reader.specs.Ends.{reads_within, function_view_reaches}
 use Rattle.unit.specs.declared.Head.{Head}
 use Rattle.unit.specs.declared.Table.{Table}
 use Rattle.unit.specs.declared.View.{View}
-use Rattle.unit.specs.declared.ReadListing.{ReadListing}
-use Rattle.unit.specs.declared.ReadUnit.{ReadUnit}
+use Rattle.unit.specs.declared.Listing.{Listing}
 use Rattle.unit.specs.Outline.{starts, joined, base_from, table_places, UnitTables, unit_tables, places_of, UnitListing, unit_listing, in_listing}
 use Rattle.unit.specs.Filled.{head_of, Room, Filled, FilledBy, Rows, RowsBy, listing_of}
 use Rattle.unit.specs.Views.{head_for, segments, table_in, table_at, Ordered, view_from, view_of, answer_of, Indexed}
@@ -40,13 +38,13 @@ pub record GotTables (s before after bases : List ℕ) (commands : Commands) (e 
   pub filled : Filled s 0 before (joined (places_of tables)) e after
   pub long : length after ≡ length before
 
-module _ (s : List ℕ) (commands : Commands) {r : ReadTo} (q : r ≡ read_to (table_places commands s 1)) where
+module _ (s : List ℕ) (commands : Commands) {r : Result ℕ ReadError} (q : r ≡ read_to (table_places commands s 1)) where
   z : next (unit_tables commands s 1) (λ t e. read (places_of t) e) ≡ table_places commands s 1
   z = tables_forgotten commands s 1
 
   pub got_tables :
       {before after bases : List ℕ} → FilledBy joined s 0 before (table_places commands s 1) after → RowsBy (table_places commands s 1) bases →
-      length after ≡ length before → {e : ℕ} → r ≡ Next e → GotTables s before after bases commands e
+      length after ≡ length before → {e : ℕ} → r ≡ Ok e → GotTables s before after bases commands e
   unfolding read_to FilledBy RowsBy next
   got_tables {before} {after} {bases} f o long {e} k = go (unit_tables commands s 1) refl (q ∙ ap read_to (sym z)) (rw (← z) at f) (rw (← z) at o)
     where
@@ -58,11 +56,11 @@ module _ (s : List ℕ) (commands : Commands) {r : ReadTo} (q : r ≡ read_to (t
           record { tables = u; reads = p ∙ ap (read u) y; rows = o; filled = rw y at f; long = long }
       go (stop w v) p q f o = let y : ◌≡◌ {A = ℕ} 0 1 = cc in absurd (omega arith)
 
-  pub refused_tables : {w : StatusCode} {p : ℕ} → r ≡ Refused w p → unit_tables commands s 1 ≡ stop w p
+  pub refused_tables : {w : ReadError} → r ≡ Err w → unit_tables commands s 1 ≡ stop w.status w.at
   unfolding read_to next
-  refused_tables {w} {p} k = go (unit_tables commands s 1) (q ∙ ap read_to (sym z))
+  refused_tables {w} k = go (unit_tables commands s 1) (q ∙ ap read_to (sym z))
     where
-      go : (x : Read UnitTables) → r ≡ read_to (next x (λ t e. read (places_of t) e)) → x ≡ stop w p
+      go : (x : Read UnitTables) → r ≡ read_to (next x (λ t e. read (places_of t) e)) → x ≡ stop w.status w.at
       go (read u d) q = let y : ◌≡◌ {A = ℕ} 0 1 = cc in absurd (omega arith)
       go (stop v o) q = cc
 
@@ -75,22 +73,31 @@ pub record GotListing (s before after : List ℕ) (base : ℕ) (x : Read UnitLis
   pub code_count : length (starts listing.code) ≡ code
   pub filled : Filled s base before (in_listing listing) end after
 
-module _ (x : Read UnitListing) {r : ReadListing} (q : r ≡ listing_of x) where
+module _ (x : Read UnitListing) {r : Result Listing ReadError} (q : r ≡ listing_of x) where
   pub got_listing :
-      {s before after : List ℕ} {base : ℕ} → FilledBy in_listing s base before x after → {n m : ℕ} → r ≡ ReadListing.Counts n m →
-      GotListing s before after base x n m
+      {s before after : List ℕ} {base : ℕ} → FilledBy in_listing s base before x after → {c : Listing} → r ≡ Ok c →
+      GotListing s before after base x c.blocks c.code
   unfolding listing_of FilledBy
-  got_listing {s} {before} {after} {base} f {n} {m} k = go x q f
+  got_listing {s} {before} {after} {base} f {c} k = go x q f
     where
-      go : (y : Read UnitListing) → r ≡ listing_of y → FilledBy in_listing s base before y after → GotListing s before after base y n m
-      go (read l d) q f = record { listing = l; end = d; reads = refl; block_count = cc; code_count = cc; filled = f }
+      go : (y : Read UnitListing) → r ≡ listing_of y → FilledBy in_listing s base before y after → GotListing s before after base y c.blocks c.code
+      go (read l d) q f =
+          let z : c ≡ record { blocks = length (starts l.blocks); code = length (starts l.code) } = cc in
+          record {
+            listing = l;
+            end = d;
+            reads = refl;
+            block_count = sym (ap (λ (c : Listing). c.blocks) z);
+            code_count = sym (ap (λ (c : Listing). c.code) z);
+            filled = f;
+          }
       go (stop w p) q f = let z : ◌≡◌ {A = ℕ} 0 1 = cc in absurd (omega arith)
 
-  pub refused_listing : {w : StatusCode} {p : ℕ} → r ≡ ReadListing.Refused w p → x ≡ stop w p
+  pub refused_listing : {w : ReadError} → r ≡ Err w → x ≡ stop w.status w.at
   unfolding listing_of
-  refused_listing {w} {p} k = go x q
+  refused_listing {w} k = go x q
     where
-      go : (y : Read UnitListing) → r ≡ listing_of y → y ≡ stop w p
+      go : (y : Read UnitListing) → r ≡ listing_of y → y ≡ stop w.status w.at
       go (read l d) q = let z : ◌≡◌ {A = ℕ} 0 1 = cc in absurd (omega arith)
       go (stop v o) q = cc
 
@@ -101,15 +108,15 @@ same_head Head.Module = refl
 same_head Head.Script = refl
 
 -- the answer and the index after a refusal
-abbrev UnitRefused : Read Decoded → List ℕ → StatusCode → ℕ → Type 0
-UnitRefused x index w p = (ReadUnit.Refused w p ≡ answer_of x) × Indexed x index
+abbrev UnitRefused : Read Decoded → List ℕ → ReadError → Type 0
+UnitRefused x index w = (Err w ≡ answer_of x) × Indexed x index
 
-pub unit_refused : {w : StatusCode} {p : ℕ} (index : List ℕ) (x : Read Decoded) → x ≡ stop w p → UnitRefused x index w p
+pub unit_refused : {w : ReadError} (index : List ℕ) (x : Read Decoded) → x ≡ stop w.status w.at → UnitRefused x index w
 unfolding answer_of Indexed
 unit_refused index x q = rw q (refl, tt)
 
 module _ (head : defs.Head) (s : List ℕ) where
-  pub under_refused_1 : {w : StatusCode} {p : ℕ} (index : List ℕ) → unit_tables (commands_of head) s 1 ≡ stop w p → UnitRefused (unit_under head s 1) index w p
+  pub under_refused_1 : {w : ReadError} (index : List ℕ) → unit_tables (commands_of head) s 1 ≡ stop w.status w.at → UnitRefused (unit_under head s 1) index w
   unfolding unit_in_parts ◌>>=◌ next answer_of Indexed
   under_refused_1 index q = rw (unit_in_parts_law head s 1, q) (refl, tt)
 
@@ -117,7 +124,7 @@ module _ (head : defs.Head) (s : List ℕ) where
     abbrev signatures : List Signature
     signatures = items g1.tables.signatures
 
-    pub under_refused_2 : {w : StatusCode} {p : ℕ} (index : List ℕ) → due (commands_of head) 0x19 s e1 ≡ stop w p → UnitRefused (unit_under head s 1) index w p
+    pub under_refused_2 : {w : ReadError} (index : List ℕ) → due (commands_of head) 0x19 s e1 ≡ stop w.status w.at → UnitRefused (unit_under head s 1) index w
     unfolding unit_in_parts ◌>>=◌ ◌>>◌ next here answer_of Indexed
     under_refused_2 index q = rw (unit_in_parts_law head s 1, g1.reads, q) (refl, tt)
 
@@ -140,13 +147,13 @@ module _ (head : defs.Head) (s : List ℕ) where
         length-map g1.tables.signatures _ ∙ sym (x ∙ length-map g1.tables.signatures _)
 
     module _ {u : Unit {0}} {e2 : ℕ} (d : due (commands_of head) 0x19 s e1 ≡ read u e2) where
-      pub under_refused_3 : {w : StatusCode} {p : ℕ} (index : List ℕ) → function_view signatures s e2 ≡ stop w p → UnitRefused (unit_under head s 1) index w p
+      pub under_refused_3 : {w : ReadError} (index : List ℕ) → function_view signatures s e2 ≡ stop w.status w.at → UnitRefused (unit_under head s 1) index w
       unfolding unit_in_parts ◌>>=◌ ◌>>◌ next here answer_of Indexed
       under_refused_3 index q = rw (unit_in_parts_law head s 1, g1.reads, d, q) (refl, tt)
 
       module _ {view : defs.FunctionView} {e3 : ℕ} (f : function_view signatures s e2 ≡ read view e3) where
         pub under_refused_4 :
-            {w : StatusCode} {p : ℕ} (index : List ℕ) → unit_listing (commands_of head) s e3 ≡ stop w p → UnitRefused (unit_under head s 1) index w p
+            {w : ReadError} (index : List ℕ) → unit_listing (commands_of head) s e3 ≡ stop w.status w.at → UnitRefused (unit_under head s 1) index w
         unfolding unit_in_parts ◌>>=◌ ◌>>◌ next here answer_of Indexed
         under_refused_4 index q = rw (unit_in_parts_law head s 1, g1.reads, d, f, q) (refl, tt)
 
@@ -183,7 +190,7 @@ module _ (head : defs.Head) (s : List ℕ) where
 
           pub under_answers :
               {v : View} (h : Head) → head ≡ head_of h → v ≡ view_from h bases e1 n m →
-              (ReadUnit.Unit v ≡ answer_of (unit_under head s 1)) × Indexed (unit_under head s 1) m2
+              (Ok v ≡ answer_of (unit_under head s 1)) × Indexed (unit_under head s 1) m2
           unfolding answer_of Indexed view_of decoded places_of base_from
           under_answers {v} h r k =
               let x : head_for head ≡ h = ap head_for r ∙ same_head h in
@@ -201,7 +208,7 @@ module _ (head : defs.Head) (s : List ℕ) where
               let bs = g3.block_count in
               let cs = g3.code_count in
               let w : v ≡ view_of read_there = k ∙ cc in
-              rw under_reads (ap ReadUnit.Unit w, under_filled)
+              rw under_reads (ap Ok w, under_filled)
 
 -- ── a whole unit ──
 
@@ -210,12 +217,9 @@ unfolding read_unit
 read_long s h = rw (lt-leb (length s) 32768 h, read_unit)
 
 module _ (s : List ℕ) (l : length s ≤ 32768) where
-  pub read_empty : length s ≡ 0 → read_unit s ≡ stop SHORT 0
+  pub read_empty : length s ≤ 0 → read_unit s ≡ stop SHORT (length s)
   unfolding read_unit unit ◌>>=◌ next
-  read_empty h =
-      let k : length s ≤ 0 = omega arith in
-      let z : read_unit s ≡ unit s 0 = rw (le-leb (length s) 32768 l, read_unit) in
-      z ∙ rw (byte_short s 0 k) (ap (stop SHORT) h)
+  read_empty h = let z : read_unit s ≡ unit s 0 = rw (le-leb (length s) 32768 l, read_unit) in z ∙ rw (byte_short s 0 h)
 
   module _ (h : 0 < length s) where
     read_after : read_unit s ≡ unit_after_head (head_command (get_or s 0 0)) s 1
@@ -246,5 +250,5 @@ first_room h l w = record { below = omega arith; inside = h; small = l; wide = w
 
 -- what was read under the head was read of the unit
 pub read_as :
-    {r : ReadUnit} {x : Read Decoded} (index : List ℕ) (y : Read Decoded) → y ≡ x → r ≡ answer_of x → Indexed x index → (r ≡ answer_of y) × Indexed y index
+    {r : Result View ReadError} {x : Read Decoded} (index : List ℕ) (y : Read Decoded) → y ≡ x → r ≡ answer_of x → Indexed x index → (r ≡ answer_of y) × Indexed y index
 read_as index y q a i = rw q (a, i)

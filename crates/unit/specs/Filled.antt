@@ -1,13 +1,14 @@
 -- What the functions of the reader answer for what the definitions read, and what they leave in the index.
-use Rattle.std.specs.Prelude.{◌≡◌, List, ◌++◌, ℕ, ◌+◌, ◌≤◌, ◌<◌, length, take, get_or}
+use Rattle.std.specs.Prelude.{◌≡◌, List, ◌++◌, ℕ, ◌+◌, ◌≤◌, length, take, get_or, Result, Ok, Err}
 use Rattle.definitions.specs.Reading.{Read, read, stop, Placed}
 use Rattle.definitions.specs.Places.{TableAt}
 use Rattle.definitions.specs.Commands.{commands_of}
 use Rattle.definitions.specs.Reader.{code, block, items}
 use Rattle.definitions.specs.CompiledUnit as defs
 use Rattle.unit.specs.declared.Head.{Head}
-use Rattle.unit.specs.declared.ReadTable.{ReadTable}
-use Rattle.unit.specs.declared.ReadListing.{ReadListing}
+use Rattle.record_reader.specs.declared.ReadError.{ReadError}
+use Rattle.unit.specs.declared.Records.{Records}
+use Rattle.unit.specs.declared.Listing.{Listing}
 use Rattle.unit.specs.Outline.{starts, places, base_from, UnitListing}
 
 -- the definition's head for the code's
@@ -35,13 +36,18 @@ FilledBy places s base before (stop status p) after = Unit {0}
 
 -- ── answers ──
 
-unfoldable pub table_of : Read (List ℕ) → ReadTable
-table_of (read ps e) = ReadTable.Records (length ps) e
-table_of (stop status p) = ReadTable.Refused status p
+unfoldable pub table_of : Read (List ℕ) → Result Records ReadError
+table_of (read ps e) = Ok (record { count = length ps; next = e })
+table_of (stop status p) = Err (record { status = status; at = p })
 
-unfoldable pub listing_of : Read UnitListing → ReadListing
-listing_of (read l e) = ReadListing.Counts (length (starts l.blocks)) (length (starts l.code))
-listing_of (stop status p) = ReadListing.Refused status p
+unfoldable pub listing_of : Read UnitListing → Result Listing ReadError
+listing_of (read l e) = Ok (record { blocks = length (starts l.blocks); code = length (starts l.code) })
+listing_of (stop status p) = Err (record { status = status; at = p })
+
+-- what is only judged
+unfoldable pub judged_of : Read (Unit {0}) → Result (Unit {0}) ReadError
+judged_of (read u e) = Ok tt
+judged_of (stop status p) = Err (record { status = status; at = p })
 
 -- the entries of each of the tables ls begin where bases says, and so does what is behind the last
 pub record Rows (bases : List ℕ) (ls : List (List ℕ)) : Type 0 where
@@ -54,15 +60,14 @@ RowsBy (read ls e) bases = Rows bases ls
 RowsBy (stop status p) bases = Unit {0}
 
 -- the answer for the code, and the index afterwards, whatever the head is
-pub record CodeAnswered (s : List ℕ) (from base : ℕ) (before after : List ℕ) (r : ReadTable) : Type 0 where
+pub record CodeAnswered (s : List ℕ) (from base : ℕ) (before after : List ℕ) (r : Result Records ReadError) : Type 0 where
   pub answers : (head : defs.Head) → r ≡ table_of (places (code (commands_of head)) s from)
   pub fills : (head : defs.Head) → FilledBy (λ ps. ps) s base before (places (code (commands_of head)) s from) after
 
 -- ── blocks ──
 
--- the entries from base on are the places of these blocks, and the blocks stand there
-pub record BlocksAt (s index : List ℕ) (base count : ℕ) : Type 0 where
+-- these are the places of these blocks, and the blocks stand there
+pub record BlocksAt (s places : List ℕ) : Type 0 where
   pub blocks : List (Placed defs.Block)
-  pub counted : length blocks ≡ count
-  pub indexed : (i : ℕ) → i < count → (base + i < length index) × (get_or index (base + i) 0 ≡ get_or (starts blocks) i 0)
+  pub placed : places ≡ starts blocks
   pub stand : TableAt block s (starts blocks) (items blocks)

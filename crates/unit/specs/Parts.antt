@@ -11,6 +11,7 @@ use Rattle.definitions.specs.CompiledUnit.{Head, FunctionView}
 use Rattle.definitions.specs.Reading.{Read, read, stop, Reader, next, ◌>>=◌, ◌>>◌, give, here, byte, opens, Placed}
 use Rattle.definitions.specs.Commands.{Commands, commands_of, known}
 use Rattle.definitions.specs.Reader.{Decoded, items, table_within, table, due, function_view, unit_under}
+use Rattle.record_reader.specs.declared.ReadError.{ReadError}
 use Rattle.record_reader.specs.ReadTo.{read_to}
 use Rattle.record_reader.specs.Alike.{Alike}
 use Rattle.record_reader.specs.Bodies.{body_of}
@@ -85,7 +86,11 @@ module _ {A B : Type 0} {m : Reader A} {n : Reader B} (h : Alike m n) (c : ℕ) 
       ∙ rw z (sym (starts_one (record { start = at; item = b }) (table_within turns c n s d)))
   body_alike turns at ih (read a e) (stop w p) q = let z : ◌≡◌ {A = ℕ} 0 1 = cc in absurd (omega arith)
   body_alike turns at ih (stop w p) (read b d) q = let z : ◌≡◌ {A = ℕ} 0 1 = cc in absurd (omega arith)
-  body_alike turns at ih (stop w p) (stop v o) q = cc
+  body_alike turns at ih (stop w p) (stop v o) q =
+      let z : ◌≡◌ {A = ReadError} (record { status = w; at = p }) (record { status = v; at = o }) = cc in
+      let x : w ≡ v = ap (λ (e : ReadError). e.status) z in
+      let y : p ≡ o = ap (λ (e : ReadError). e.at) z in
+      rw (x, y)
 
   within_alike : (turns at : ℕ) → starts_in (table_within turns c m s at) ≡ starts_in (table_within turns c n s at)
   unfolding table_within give ◌>>=◌ ◌>>◌ next opens here starts_in starts

@@ -1,13 +1,13 @@
 -- What `read` answers of a unit, and what it leaves in the index: the view has for each table its entries in the index, and the index
 -- has the place of each record, table after table, and then of each instruction.
-use Rattle.std.specs.Prelude.{◌≡◌, List, [], ◌∷◌, ℕ, ◌+◌, ◌-◌, ◌≤◌, ◌<◌, length, get_or, take}
+use Rattle.std.specs.Prelude.{◌≡◌, List, [], ◌∷◌, ℕ, ◌+◌, ◌-◌, ◌≤◌, ◌<◌, length, get_or, take, Result, Ok, Err}
 use Rattle.definitions.specs.CompiledUnit as defs
 use Rattle.definitions.specs.Reading.{Read, read, stop}
 use Rattle.definitions.specs.Reader.{Decoded, read_unit}
 use Rattle.unit.specs.declared.Head.{Head}
 use Rattle.unit.specs.declared.Table.{Table}
 use Rattle.unit.specs.declared.View.{View}
-use Rattle.unit.specs.declared.ReadUnit.{ReadUnit}
+use Rattle.record_reader.specs.declared.ReadError.{ReadError}
 use Rattle.unit.specs.Outline.{starts, joined, base_from}
 
 -- the code's head for the definition's
@@ -75,9 +75,9 @@ view_from head bases function blocks code = record {
 -- ── what `read` promises ──
 
 -- the answer for what is read
-unfoldable pub answer_of : Read Decoded → ReadUnit
-answer_of (read d e) = ReadUnit.Unit (view_of d)
-answer_of (stop status p) = ReadUnit.Refused status p
+unfoldable pub answer_of : Read Decoded → Result View ReadError
+answer_of (read d e) = Ok (view_of d)
+answer_of (stop status p) = Err (record { status = status; at = p })
 
 -- the index has the places of a unit that was read
 unfoldable pub Indexed : Read Decoded → List ℕ → Type 0

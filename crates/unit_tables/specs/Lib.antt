@@ -1,3 +1,5 @@
 -- The modules of this crate's specs.
-pub mod Found
+pub mod ReadAs
+pub mod Compiled
+pub mod Answers
 pub mod Tables

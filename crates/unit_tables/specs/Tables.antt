@@ -3,8 +3,9 @@ use Rattle.std.proofs.Math.Path.{◌≡◌, refl, sym}
 use Rattle.std.proofs.Common.{ap, ◌∙◌, arith, leb→le}
 use Rattle.std.specs.Prelude.{Bool, true, false, List, [], leb, T, length, get_or}
 use Prim.Native.Nat.{ℕ, zero, suc, ◌+◌, ◌≤◌, ◌<◌}
-use Rattle.status.specs.declared.StatusCode.TheVariants.{OUT_OF_TABLE, TOO_LONG, INVALID_OPERATION_IN_SCRIPT}
-use Rattle.definitions.specs.Result.{Result, ok, err, at}
+use Rattle.status.specs.declared.StatusCode.{StatusCode}
+use Rattle.status.specs.declared.StatusCode.TheVariants.{OUT_OF_TABLE, TOO_LONG}
+use Rattle.definitions.specs.Result.{ok, err, at}
 use Rattle.definitions.specs.Commands.{commands_of}
 use Rattle.definitions.specs.Reading.{Read, read, stop, Reader}
 use Rattle.definitions.specs.Reader.{Decoded, read_unit, compiled_unit, unit, type, types, struct_handle, function_handle, function_instantiation, struct_definition, struct_def_instantiation, field_handle, field_instantiation, block}
@@ -12,11 +13,9 @@ use Rattle.definitions.specs.Places.{RecordAt, TableAt, more}
 use Rattle.definitions.specs.Places.TableAt.{none as none'}
 use Rattle.unit.specs.declared.View.{View}
 use Rattle.unit.specs.declared.Table.{Table}
-use Rattle.unit.specs.Views.{UnitRead, segments, table_in, view_of, head_for}
+use Rattle.unit.specs.Views.{UnitRead, segments, table_in, view_of}
 use Rattle.unit.specs.Entries.{Has, segment_at}
 use Rattle.unit.specs.Standing.{UnitStands, unit_stands}
-use Rattle.definitions.specs.CompiledUnit as defs
-use Rattle.unit.specs.declared.Head.{Head}
 
 -- ── the words ──
 
@@ -138,29 +137,19 @@ module _ {A : Type 0} {body : Reader A} {s index : List ℕ} {t : Table} {l : Li
   pub past : {i : ℕ} → t.count ≤ i → at l i ≡ err OUT_OF_TABLE
   past h = nth_past k.stands _ (omega (arith, k.counted))
 
--- record i of a table stands at p
-pub found : {A : Type 0} {body : Reader A} {s index : List ℕ} {t : Table} {l : List A} → TableIn body s index t l → {i p : ℕ} → i < t.count → p ≡ get_or index (t.base + i) 0 → Found body s l i p
-found k h e = rw e (placed k h)
+-- the place p is the entry of record i
+pub record EntryIs (index : List ℕ) (t : Table) (i p : ℕ) : Type 0 where
+  pub below : i < t.count
+  pub is : p ≡ get_or index (t.base + i) 0
 
--- ── the head ──
+-- record i of a table stands there
+pub found : {A : Type 0} {body : Reader A} {s index : List ℕ} {t : Table} {l : List A} → TableIn body s index t l → {i p : ℕ} → EntryIs index t i p → Found body s l i p
+found k e = rw e.is (placed k e.below)
 
-module _ {s index : List ℕ} {view : View} (u : UnitRead s index view) where
-  head_is : {h : Head} → view.head ≡ h → head_for u.decoded.head ≡ h
-  unfolding view_of
-  head_is e = sym (ap (λ (v : View). v.head) u.viewed) ∙ e
+-- v refuses the index i, which is past the table
+pub record PastIs (t : Table) (i : ℕ) (v : StatusCode) : Type 0 where
+  pub over : t.count ≤ i
+  pub is : v ≡ OUT_OF_TABLE
 
-  pub in_module_law : {A : Type 0} (x : Result A) → view.head ≡ Head.Module → defs.in_module (compiled_unit u.decoded).head x ≡ x
-  unfolding defs.in_module compiled_unit
-  in_module_law x e = go u.decoded.head (head_is e)
-    where
-      go : (h : defs.Head) → head_for h ≡ Head.Module → defs.in_module h x ≡ x
-      go defs.Module q = refl
-      go defs.Script q = let z : ◌≡◌ {A = ℕ} 0 1 = cc in absurd (omega arith)
-
-  pub in_script : {A : Type 0} (x : Result A) → view.head ≡ Head.Script → defs.in_module (compiled_unit u.decoded).head x ≡ err INVALID_OPERATION_IN_SCRIPT
-  unfolding defs.in_module compiled_unit
-  in_script x e = go u.decoded.head (head_is e)
-    where
-      go : (h : defs.Head) → head_for h ≡ Head.Script → defs.in_module h x ≡ err INVALID_OPERATION_IN_SCRIPT
-      go defs.Module q = let z : ◌≡◌ {A = ℕ} 0 1 = cc in absurd (omega arith)
-      go defs.Script q = refl
+pub refused_past : {A : Type 0} {body : Reader A} {s index : List ℕ} {t : Table} {l : List A} → TableIn body s index t l → {i : ℕ} {v : StatusCode} → PastIs t i v → at l i ≡ err v
+refused_past k e = past k e.over ∙ ap err (sym e.is)

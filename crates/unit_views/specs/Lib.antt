@@ -1,3 +1,2 @@
 -- The modules of this crate's specs.
-pub mod Answers
 pub mod Lookups

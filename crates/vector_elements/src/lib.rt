@@ -1,82 +1,74 @@
 // What the steps over vectors ask of an operand: whether it is a vector of a type of the unit, and whether it refers to one.
 #![tactic(auto)]
 
-ghost use Rattle.definitions.specs.Places.{TypeAt};
 ghost use Rattle.signature_token.specs.Same.{Spans};
 ghost use Rattle.vector_elements.specs.Elements.{VectorElementAt, ElementTypeAt, VectorIs, ElementIs};
 
-use signature_token::{Token, Wrapper};
+use signature_token::{Token, TypeRef, Wrapper};
+use type_stack::Entry;
 use type_tests::Referent;
 
-// Where the element type of a vector stands.
-#[derive(Clone, Copy)]
-enum ElementType {
-    Found(usize),
-    NoVector,
-}
-
-// The element of the type at `at`, where that is a vector.
-fn vector_element(s: &[u8], at: usize) -> ElementType
-    requires { TypeAt s.now at }
-    ensures { VectorElementAt s.now at result }
+// Where the element of the type stands, if that is a vector.
+fn vector_element(ty: TypeRef) -> Option<usize>
+    ensures { VectorElementAt ty.entry.bytes.now ty.entry.at result }
 {
-    match signature_token::token_at(s, at) {
-        Token::Leaf(_) => ElementType::NoVector,
-        Token::Wrapped(wrapper, inner) => match wrapper {
-            Wrapper::Vector => ElementType::Found(inner),
-            Wrapper::Reference => ElementType::NoVector,
-            Wrapper::MutableReference => ElementType::NoVector,
-        },
-        Token::Struct(_) => ElementType::NoVector,
-        Token::StructInstantiation(_, _, _) => ElementType::NoVector,
-        Token::TypeParameter(_) => ElementType::NoVector,
+    match ty.token() {
+        Token::Wrapped(Wrapper::Vector, inner) => Some(inner),
+        _ => None,
     }
 }
 
-// The element of the vector that the type at `at` refers to; with mut_ref_only a `&mut` alone refers.
-fn get_vector_element_type(s: &[u8], at: usize, mut_ref_only: bool) -> ElementType
-    requires { TypeAt s.now at }
-    ensures { ElementTypeAt s.now at mut_ref_only result }
+// Where the element of the vector stands that the type refers to; with mut_ref_only a `&mut` alone refers.
+#[tactic(auto, using(crate::specs::Elements::referents))]
+fn get_vector_element_type(ty: TypeRef, mut_ref_only: bool) -> Option<usize>
+    ensures { ElementTypeAt ty.entry.bytes.now ty.entry.at mut_ref_only result }
 {
-    match type_tests::referent_at(s, at) {
+    match type_tests::referent_of(ty) {
         Referent::Reference(inner) => {
             if mut_ref_only {
-                return ElementType::NoVector;
+                return None;
             }
-            vector_element(s, inner)
+            vector_element(TypeRef {
+                bytes: ty.bytes,
+                at: inner,
+            })
         }
-        Referent::MutableReference(inner) => vector_element(s, inner),
-        Referent::Value => ElementType::NoVector,
+        Referent::MutableReference(inner) => vector_element(TypeRef {
+            bytes: ty.bytes,
+            at: inner,
+        }),
+        Referent::Value => None,
     }
 }
 
-// Whether the operand of len bytes is a vector of the type declared in s.
-pub fn vector_is(area: &[u8], at: usize, len: usize, s: &[u8], declared: usize) -> bool
-    requires spans { Spans area.now at len }
-    requires type_at { TypeAt s.now declared }
-    ensures { VectorIs area.now at len s.now declared result }
+// Whether the operand is a vector of the declared type.
+#[tactic(auto, using(crate::specs::Elements::vectors))]
+pub fn vector_is(area: &[u8], operand: Entry, declared: TypeRef) -> bool
+    requires { Spans area.now operand.start operand.len }
+    ensures { VectorIs area.now operand.start operand.len declared.entry.bytes.now declared.entry.at result }
 {
-    match vector_element(area, at) {
-        ElementType::Found(x) => type_tests::same_type(area, x, len - 1, s, declared),
-        ElementType::NoVector => false,
+    let vector = TypeRef {
+        bytes: area,
+        at: operand.start,
+    };
+    match vector_element(vector) {
+        Some(x) => type_tests::same_type(area, x, operand.len - 1, declared),
+        None => false,
     }
 }
 
-// Whether the operand of len bytes refers to a vector of the type declared in s.
-pub fn element_is(
-    area: &[u8],
-    at: usize,
-    len: usize,
-    s: &[u8],
-    declared: usize,
-    mut_ref_only: bool,
-) -> bool
-    requires spans { Spans area.now at len }
-    requires type_at { TypeAt s.now declared }
-    ensures { ElementIs area.now at len s.now declared mut_ref_only result }
+// Whether the operand refers to a vector of the declared type.
+#[tactic(auto, using(crate::specs::Elements::elements))]
+pub fn element_is(area: &[u8], operand: Entry, declared: TypeRef, mut_ref_only: bool) -> bool
+    requires { Spans area.now operand.start operand.len }
+    ensures { ElementIs area.now operand.start operand.len declared.entry.bytes.now declared.entry.at mut_ref_only result }
 {
-    match get_vector_element_type(area, at, mut_ref_only) {
-        ElementType::Found(x) => type_tests::same_type(area, x, len - 2, s, declared),
-        ElementType::NoVector => false,
+    let reference = TypeRef {
+        bytes: area,
+        at: operand.start,
+    };
+    match get_vector_element_type(reference, mut_ref_only) {
+        Some(x) => type_tests::same_type(area, x, operand.len - 2, declared),
+        None => false,
     }
 }

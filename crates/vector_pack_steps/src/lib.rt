@@ -1,121 +1,90 @@
 // VecPack and VecUnpack of type_safety.rs: as many pops or pushes as the instruction says. VecPack looks the element type up before its pops,
 // VecUnpack after its pop.
-#![tactic(auto)]
+#![tactic(auto, using(type_stack::specs::Stepping::pops, operand_steps::specs::Operands::operands, step_views::specs::Looked::types), unfolding(definitions::specs::TypeSafety::vec_pack, definitions::specs::TypeSafety::vec_unpack))]
 
+ghost use Rattle.std.specs.Prelude.{◌≤◌, length};
 ghost use Rattle.definitions.specs.Machine.{pop_n};
 ghost use Rattle.definitions.specs.TypeSafety as step;
-ghost use Rattle.definitions.specs.Reader.{compiled_unit};
-ghost use Rattle.type_stack.specs.Held.{Stacked, Part, part};
+ghost use Rattle.type_stack.specs.Held.{Stacked};
 ghost use Rattle.type_stack.specs.Stepping.{StepsTo};
-ghost use Rattle.unit.specs.Views.{UnitRead};
+ghost use Rattle.unit_tables.specs.Compiled.{compiled};
 ghost use Rattle.vector_pack_steps.specs.Many.{PushesMany};
 
 use file_format::SignatureIndex;
-use signature_token::VECTOR;
-use status::StatusCode;
-use type_stack::{Stepped, Top};
-use unit::View;
-use unit_views::TypeResult;
+use signature_token::{TypeRef, VECTOR};
+use status::{PartialVMResult, StatusCode};
+use unit_tables::UnitView;
 
 // Pops num types. It ends with the stack, however large num is.
-fn pop_many(area: &[u8], weight: usize, num: u64) -> Stepped
+#[tactic(auto, using(crate::specs::Many::popping))]
+fn pop_many(area: &[u8], weight: usize, num: u64) -> PartialVMResult<usize>
     requires { Stacked area.now weight }
     ensures { StepsTo (pop_n num) area.now weight area.now result }
 {
     let mut below = weight;
-    let mut left = num;
-    while 0 < left {
-        left -= 1;
-        match type_stack::peek(area, below) {
-            Top::Empty => {
-                return Stepped::Refused(StatusCode::EMPTY_STACK);
-            }
-            Top::Entry { start, len: _ } => {
-                below = start;
-            }
-        }
+    for _i in 0..num {
+        below = type_stack::pop(area, below)?.start;
     }
-    Stepped::Next(below)
+    Ok(below)
 }
 
-// Pushes num times the type that stands in src from `from` to `to`. That all of them fit is tested at once, and before any is written.
-fn push_many(
-    area: &mut [u8],
-    weight: usize,
-    src: &[u8],
-    from: usize,
-    to: usize,
-    num: u64,
-) -> Stepped
+// Pushes the type of these bytes num times. That all of them fit is tested at once, and before any is written.
+#[tactic(auto, using(crate::specs::Many::writing))]
+fn push_many(area: &mut [u8], weight: usize, bytes: &[u8], num: u64) -> PartialVMResult<usize>
     requires stacked { Stacked area.old weight }
-    requires part { Part src.now from to }
-    ensures { PushesMany num (part src.now from to) area.old weight area.new result }
+    requires short { length bytes.now ≤ 65535 }
+    ensures { PushesMany num bytes.now area.old weight area.new result }
 {
-    let fit = (area.len() - weight) / (to - from + 2);
+    let fit = (area.len() - weight) / (bytes.len() + 2);
     if (fit as u64) < num {
-        return Stepped::Refused(StatusCode::NO_ROOM);
+        return Err(StatusCode::NO_ROOM);
     }
     let mut end = weight;
-    let mut left = num;
-    while 0 < left {
-        left -= 1;
-        end = copied_pushes::write_part(area, end, src, from, to);
+    for _i in 0..num {
+        end = copied_pushes::write_part(area, end, bytes);
     }
-    Stepped::Next(end)
+    Ok(end)
 }
 
 // `VecPack`: it pops without comparing.
 pub fn vec_pack(
     area: &mut [u8],
     weight: usize,
-    s: &[u8],
-    index: &[u16],
-    view: View,
+    unit: &UnitView<'_>,
     idx: SignatureIndex,
     num: u64,
-) -> Stepped
-    requires stacked { Stacked area.old weight }
-    requires unit_read { UnitRead s.now index.now view }
-    ensures { (p : UnitRead s.now index.now view) → StepsTo (step.vec_pack (compiled_unit p.decoded) idx.0 num) area.old weight area.new result }
+) -> PartialVMResult<usize>
+    requires { Stacked area.old weight }
+    ensures { StepsTo (step.vec_pack (compiled unit.now) idx.0 num) area.old weight area.new result }
 {
-    match unit_views::element_type_at(s, index, view, idx) {
-        TypeResult::Refused(status) => Stepped::Refused(status),
-        TypeResult::Found(element) => match pop_many(area, weight, num) {
-            Stepped::Refused(status) => Stepped::Refused(status),
-            Stepped::Next(below) => {
-                let end = signature_token::end_of_type(s, element);
-                copied_pushes::push_wrapped(area, below, VECTOR, s, element, end)
-            }
-        },
-    }
+    let at = unit_views::element_type_at(unit, idx)?;
+    let below = pop_many(area, weight, num)?;
+    let element = TypeRef {
+        bytes: unit.bytes,
+        at,
+    };
+    copied_pushes::push_wrapped(area, below, VECTOR, &unit.bytes[at..element.end()])
 }
 
 // `VecUnpack`.
 pub fn vec_unpack(
     area: &mut [u8],
     weight: usize,
-    s: &[u8],
-    index: &[u16],
-    view: View,
+    unit: &UnitView<'_>,
     idx: SignatureIndex,
     num: u64,
-) -> Stepped
-    requires stacked { Stacked area.old weight }
-    requires unit_read { UnitRead s.now index.now view }
-    ensures { (p : UnitRead s.now index.now view) → StepsTo (step.vec_unpack (compiled_unit p.decoded) idx.0 num) area.old weight area.new result }
+) -> PartialVMResult<usize>
+    requires { Stacked area.old weight }
+    ensures { StepsTo (step.vec_unpack (compiled unit.now) idx.0 num) area.old weight area.new result }
 {
-    let top = type_stack::peek(area, weight);
-    let Top::Entry { start, len } = top else {
-        return Stepped::Refused(StatusCode::EMPTY_STACK);
+    let top = type_stack::pop(area, weight)?;
+    let at = unit_views::element_type_at(unit, idx)?;
+    let declared = TypeRef {
+        bytes: unit.bytes,
+        at,
     };
-    match unit_views::element_type_at(s, index, view, idx) {
-        TypeResult::Refused(status) => Stepped::Refused(status),
-        TypeResult::Found(declared) => {
-            if vector_elements::vector_is(area, start, len, s, declared) {
-                let end = signature_token::end_of_type(s, declared);
-                return push_many(area, start, s, declared, end, num);
-            }
-            Stepped::Refused(StatusCode::TYPE_MISMATCH)
-        }
+    if vector_elements::vector_is(area, top, declared) {
+        return push_many(area, top.start, &unit.bytes[at..declared.end()], num);
     }
+    Err(StatusCode::TYPE_MISMATCH)
 }

@@ -1,10 +1,11 @@
 -- The element type that a vector instruction names: found in the unit, and compared with what an operand refers to. The laws of these looks
 -- for the programs that they are part of.
-use Rattle.std.specs.Prelude.{◌≡◌, List, Bool, ℕ}
+use Rattle.std.specs.Prelude.{◌≡◌, List, Bool, ℕ, Ok, Err}
 use Rattle.std.proofs.Math.Path.{refl, ap}
 use Rattle.std.proofs.Common.{sym, ◌∙◌}
 use Rattle.std.proofs.Math.Bool.{true, false}
 use Rattle.status.specs.declared.StatusCode.{StatusCode}
+use Rattle.file_format.specs.Answers.{PartialVMResult}
 use Rattle.status.specs.declared.StatusCode.TheVariants.{TYPE_MISMATCH}
 use Rattle.definitions.specs.Result.{Result, ok, err, ◌>>?◌}
 use Rattle.definitions.specs.SignatureToken.{SignatureToken}
@@ -16,13 +17,12 @@ use Rattle.definitions.specs.Places.{TypeAt}
 use Rattle.signature_token.specs.Same.{Spans}
 use Rattle.type_stack.specs.Held.{Here}
 use Rattle.type_stack.specs.Stepping.{StepsTo, done_here}
-use Rattle.type_stack.specs.declared.Stepped.{Stepped}
-use Rattle.type_stack.specs.declared.Stepped.TheVariants.{Next, Refused}
+use Rattle.type_stack.specs.Answers.{Stepped}
 use Rattle.operand_steps.specs.Operands.{span}
-use Rattle.unit_views.specs.Answers.{TypeIs, type_found, type_refused}
-use Rattle.unit_views.specs.declared.TypeResult.{TypeResult}
+use Rattle.unit_tables.specs.Answers.{ResultIs, what_found, why_refused}
+use Rattle.unit_views.specs.Lookups.{TypeIs}
 use Rattle.vector_elements.specs.Elements.{is_element, ElementIs, guard_is}
-use Rattle.step_views.specs.Checks.{found_type, type_then, type_bad}
+use Rattle.step_views.specs.Looked.{found_type, type_then, looked_bad}
 
 -- ── the words ──
 
@@ -35,8 +35,8 @@ unfoldable pub named_element : CompiledUnit → ℕ → SignatureToken → Bool 
 named_element u idx t mut_ref_only = element_type_at u idx >>? λ declared. of_element declared (is_element declared (get_vector_element_type t mut_ref_only))
 
 -- r says where it stands
-pub record NamedElement (u : CompiledUnit) (idx : ℕ) (m : Bool) (a : List ℕ) (x l : ℕ) (s : List ℕ) (r : TypeResult) : Type 0 where
-  pub is : (p : Spans a x l) → TypeIs s (named_element u idx p.type m) r
+pub record NamedElement (u : CompiledUnit) (idx : ℕ) (m : Bool) (a : List ℕ) (x l : ℕ) (s : List ℕ) (r : PartialVMResult ℕ) : Type 0 where
+  pub is : (p : Spans a x l) → ResultIs (TypeIs s) (named_element u idx p.type m) r
 
 -- ── the look-up and the guard together ──
 
@@ -61,44 +61,48 @@ module _ (t : SignatureToken) (m : Bool) where
       go true = refl
       go false = refl
 
-module _ {u : CompiledUnit} {idx : ℕ} {m : Bool} {a : List ℕ} {x l : ℕ} {s : List ℕ} {q : TypeResult} (k : NamedElement u idx m a x l s q) {t : SignatureToken} (h : Here a x l t) {g : List ℕ} {w : ℕ} where
+module _ {u : CompiledUnit} {idx : ℕ} {m : Bool} {a : List ℕ} {x l : ℕ} {s : List ℕ} {t : SignatureToken} {g : List ℕ} {w : ℕ} where
   pub named_then :
-      (f : SignatureToken → Step) {d : ℕ} {b : List ℕ} {r : Stepped} → q ≡ TypeResult.Found d → ((p : TypeAt s d) → StepsTo (f p.type) g w b r) →
-      StepsTo (look (element_type_at u idx) >>= (λ d. element_is d t m >>= (λ _. f d))) g w b r
+      {d : ℕ} → NamedElement u idx m a x l s (Ok d) → Here a x l t → (f : SignatureToken → Step) {b : List ℕ} {r : Stepped} →
+      ((p : TypeAt s d) → StepsTo (f p.type) g w b r) → StepsTo (look (element_type_at u idx) >>= (λ d. element_is d t m >>= (λ _. f d))) g w b r
   unfolding named_element
-  named_then f e z = rw (of_named t m (element_type_at u idx) f) (type_then (k.is (span h)) f e z)
+  named_then k h f z = rw (of_named t m (element_type_at u idx) f) (type_then f (k.is (span h)) z)
 
   pub named_bad :
-      (f : SignatureToken → Step) {y : StatusCode} → q ≡ TypeResult.Refused y →
-      StepsTo (look (element_type_at u idx) >>= (λ d. element_is d t m >>= (λ _. f d))) g w g (Refused y)
+      {y : StatusCode} → NamedElement u idx m a x l s (Err y) → Here a x l t → (f : SignatureToken → Step) →
+      StepsTo (look (element_type_at u idx) >>= (λ d. element_is d t m >>= (λ _. f d))) g w g (Err y)
   unfolding named_element
-  named_bad f e = rw (of_named t m (element_type_at u idx) f) (type_bad (k.is (span h)) f e)
+  named_bad k h f = rw (of_named t m (element_type_at u idx) f) (looked_bad f (k.is (span h)))
 
-  pub named_last : {d : ℕ} → q ≡ TypeResult.Found d → StepsTo (look (element_type_at u idx) >>= (λ d. element_is d t m)) g w g (Next w)
-  named_last e = rw (of_named_last t m (element_type_at u idx)) (named_then (λ _. done) e (λ p. done_here))
+  pub named_last : {d : ℕ} → NamedElement u idx m a x l s (Ok d) → Here a x l t → StepsTo (look (element_type_at u idx) >>= (λ d. element_is d t m)) g w g (Ok w)
+  named_last k h = rw (of_named_last t m (element_type_at u idx)) (named_then k h (λ _. done) (λ p. done_here))
 
-  pub named_last_bad : {y : StatusCode} → q ≡ TypeResult.Refused y → StepsTo (look (element_type_at u idx) >>= (λ d. element_is d t m)) g w g (Refused y)
-  named_last_bad e = rw (of_named_last t m (element_type_at u idx)) (named_bad (λ _. done) e)
+  pub named_last_bad : {y : StatusCode} → NamedElement u idx m a x l s (Err y) → Here a x l t → StepsTo (look (element_type_at u idx) >>= (λ d. element_is d t m)) g w g (Err y)
+  named_last_bad k h = rw (of_named_last t m (element_type_at u idx)) (named_bad k h (λ _. done))
 
 -- where it was found
-pub named_type : {u : CompiledUnit} {idx : ℕ} {m : Bool} {a : List ℕ} {x l : ℕ} {s : List ℕ} {q : TypeResult} → NamedElement u idx m a x l s q → Spans a x l → {d : ℕ} → q ≡ TypeResult.Found d → TypeAt s d
-named_type k p e = found_type (k.is p) e
+pub named_type : {u : CompiledUnit} {idx : ℕ} {m : Bool} {a : List ℕ} {x l : ℕ} {s : List ℕ} {d : ℕ} → NamedElement u idx m a x l s (Ok d) → Spans a x l → TypeAt s d
+named_type k p = found_type (k.is p)
 
 -- what `named_element` finds: no signature, an element type that is not the operand's, or one that is
-module _ (u : CompiledUnit) (idx : ℕ) {s : List ℕ} {q : TypeResult} (k : TypeIs s (element_type_at u idx) q) (m : Bool) {a : List ℕ} {x l : ℕ} where
-  pub named_none : {y : StatusCode} → q ≡ TypeResult.Refused y → NamedElement u idx m a x l s (TypeResult.Refused y)
+module _ (u : CompiledUnit) (idx : ℕ) {s : List ℕ} {m : Bool} {a : List ℕ} {x l : ℕ} where
+  pub named_none : {y : StatusCode} → ResultIs (TypeIs s) (element_type_at u idx) (Err y) → NamedElement u idx m a x l s (Err y)
   unfolding named_element ◌>>?◌
-  named_none e = record { is = λ p. rw (type_refused k e) (record { is = refl }) }
+  named_none k = record { is = λ p. rw (why_refused k) (record { is = refl }) }
 
-  module _ {d : ℕ} (e : q ≡ TypeResult.Found d) {r : Bool} (i : ElementIs a x l s d m r) where
-    named_test : (p : Spans a x l) → named_element u idx p.type m ≡ of_element (found_type k e).type r
-    unfolding named_element ◌>>?◌ found_type
+  module _ {d : ℕ} (k : ResultIs (TypeIs s) (element_type_at u idx) (Ok d)) {r : Bool} (i : ElementIs a x l s d m r) where
+    named_test : (p : Spans a x l) → named_element u idx p.type m ≡ of_element (what_found k).0 r
+    unfolding named_element ◌>>?◌
     named_test p =
-        ap (λ (x : Result SignatureToken). x >>? λ declared. of_element declared (is_element declared (get_vector_element_type p.type m))) (type_found k e).1
-        ∙ ap (of_element (found_type k e).type) (sym (i.is p (found_type k e)))
+        let n = what_found k in
+        ap (λ (x : Result SignatureToken). x >>? λ declared. of_element declared (is_element declared (get_vector_element_type p.type m))) n.1
+        ∙ ap (of_element n.0) (sym (i.is p (record { type = n.0; stands = n.2 })))
 
-    pub named_yes : r ≡ true → NamedElement u idx m a x l s (TypeResult.Found d)
-    named_yes f = record { is = λ p. rw (named_test p, f) (record { is = (found_type k e).stands }) }
+    pub named_yes : r ≡ true → NamedElement u idx m a x l s (Ok d)
+    named_yes f = record { is = λ p. rw (named_test p, f) (record { is = (what_found k).2 }) }
 
-    pub named_no : r ≡ false → NamedElement u idx m a x l s (TypeResult.Refused TYPE_MISMATCH)
+    pub named_no : r ≡ false → NamedElement u idx m a x l s (Err TYPE_MISMATCH)
     named_no f = record { is = λ p. rw (named_test p, f) (record { is = refl }) }
+
+-- what `named_element` answers of an element type that was found
+pub ruleset named = (named_yes, named_no)

@@ -1,167 +1,127 @@
 // The steps of type_safety.rs on a vector behind a reference: VecLen, VecPushBack, VecPopBack and VecSwap. The element type that such an instruction
 // names is looked up where the Rust looks it up: after the pops, in VecSwap after its indexes too. A step that only reads takes the area as `&[u8]`.
-#![tactic(auto)]
+#![tactic(auto, using(type_stack::specs::Stepping::pops, operand_steps::specs::Operands::operands, step_views::specs::Looked::types), unfolding(definitions::specs::TypeSafety::vec_len, definitions::specs::TypeSafety::vec_push_back, definitions::specs::TypeSafety::vec_pop_back, definitions::specs::TypeSafety::vec_swap))]
 
 ghost use Rattle.definitions.specs.TypeSafety as step;
-ghost use Rattle.definitions.specs.Reader.{compiled_unit};
 ghost use Rattle.signature_token.specs.Same.{Spans};
 ghost use Rattle.type_stack.specs.Held.{Stacked};
 ghost use Rattle.type_stack.specs.Stepping.{StepsTo};
-ghost use Rattle.unit.specs.Views.{UnitRead};
+ghost use Rattle.unit_tables.specs.Compiled.{compiled};
 ghost use Rattle.vector_steps.specs.Named.{NamedElement};
 
 use file_format::SignatureIndex;
-use signature_token::U64;
-use status::StatusCode;
-use type_stack::{Stepped, Top, TopTwo};
-use unit::View;
-use unit_views::TypeResult;
+use signature_token::{TypeRef, U64};
+use status::{PartialVMResult, StatusCode};
+use type_stack::Entry;
+use unit_tables::UnitView;
 
-// The element type that the instruction names, if the operand of len bytes refers to a vector of it.
+// Where the element type stands that the instruction names, if the operand refers to a vector of it.
+#[tactic(auto, using(crate::specs::Named::named, step_views::specs::Looked::types))]
 fn named_element(
     area: &[u8],
-    at: usize,
-    len: usize,
-    s: &[u8],
-    index: &[u16],
-    view: View,
+    operand: Entry,
+    unit: &UnitView<'_>,
     idx: SignatureIndex,
     mut_ref_only: bool,
-) -> TypeResult
-    requires spans { Spans area.now at len }
-    requires unit_read { UnitRead s.now index.now view }
-    ensures { (p : UnitRead s.now index.now view) → NamedElement (compiled_unit p.decoded) idx.0 mut_ref_only area.now at len s.now result }
+) -> PartialVMResult<usize>
+    requires { Spans area.now operand.start operand.len }
+    ensures { NamedElement (compiled unit.now) idx.0 mut_ref_only area.now operand.start operand.len unit.now.bytes.now result }
 {
-    match unit_views::element_type_at(s, index, view, idx) {
-        TypeResult::Refused(status) => TypeResult::Refused(status),
-        TypeResult::Found(declared) => {
-            if vector_elements::element_is(area, at, len, s, declared, mut_ref_only) {
-                return TypeResult::Found(declared);
-            }
-            TypeResult::Refused(StatusCode::TYPE_MISMATCH)
-        }
+    let at = unit_views::element_type_at(unit, idx)?;
+    let declared = TypeRef {
+        bytes: unit.bytes,
+        at,
+    };
+    if !vector_elements::element_is(area, operand, declared, mut_ref_only) {
+        return Err(StatusCode::TYPE_MISMATCH);
     }
+    Ok(at)
 }
 
 // `VecLen`.
 pub fn vec_len(
     area: &mut [u8],
     weight: usize,
-    s: &[u8],
-    index: &[u16],
-    view: View,
+    unit: &UnitView<'_>,
     idx: SignatureIndex,
-) -> Stepped
-    requires stacked { Stacked area.old weight }
-    requires unit_read { UnitRead s.now index.now view }
-    ensures { (p : UnitRead s.now index.now view) → StepsTo (step.vec_len (compiled_unit p.decoded) idx.0) area.old weight area.new result }
+) -> PartialVMResult<usize>
+    requires { Stacked area.old weight }
+    ensures { StepsTo (step.vec_len (compiled unit.now) idx.0) area.old weight area.new result }
 {
-    let top = type_stack::peek(area, weight);
-    let Top::Entry { start, len } = top else {
-        return Stepped::Refused(StatusCode::EMPTY_STACK);
-    };
-    match named_element(area, start, len, s, index, view, idx, false) {
-        TypeResult::Refused(status) => Stepped::Refused(status),
-        TypeResult::Found(_) => type_pushes::push_leaf(area, start, U64),
-    }
+    let top = type_stack::pop(area, weight)?;
+    named_element(area, top, unit, idx, false)?;
+    type_pushes::push_leaf(area, top.start, U64)
 }
 
 // `VecPushBack`.
 pub fn vec_push_back(
     area: &[u8],
     weight: usize,
-    s: &[u8],
-    index: &[u16],
-    view: View,
+    unit: &UnitView<'_>,
     idx: SignatureIndex,
-) -> Stepped
-    requires stacked { Stacked area.now weight }
-    requires unit_read { UnitRead s.now index.now view }
-    ensures { (p : UnitRead s.now index.now view) → StepsTo (step.vec_push_back (compiled_unit p.decoded) idx.0) area.now weight area.now result }
+) -> PartialVMResult<usize>
+    requires { Stacked area.now weight }
+    ensures { StepsTo (step.vec_push_back (compiled unit.now) idx.0) area.now weight area.now result }
 {
-    let top = type_stack::peek_two(area, weight);
-    let TopTwo::Entries {
-        start,
-        len,
-        below,
-        below_len,
-    } = top
-    else {
-        return Stepped::Refused(StatusCode::EMPTY_STACK);
+    let (top, below) = type_stack::pop_two(area, weight)?;
+    let at = unit_views::element_type_at(unit, idx)?;
+    let declared = TypeRef {
+        bytes: unit.bytes,
+        at,
     };
-    match unit_views::element_type_at(s, index, view, idx) {
-        TypeResult::Refused(status) => Stepped::Refused(status),
-        TypeResult::Found(declared) => {
-            if type_tests::same_type(area, start, len, s, declared) {
-                if vector_elements::element_is(area, below, below_len, s, declared, true) {
-                    return Stepped::Next(below);
-                }
-            }
-            Stepped::Refused(StatusCode::TYPE_MISMATCH)
+    if type_tests::same_type(area, top.start, top.len, declared) {
+        if vector_elements::element_is(area, below, declared, true) {
+            return Ok(below.start);
         }
     }
+    Err(StatusCode::TYPE_MISMATCH)
 }
 
 // `VecPopBack`.
+#[tactic(auto, using(type_stack::specs::Stepping::pops, operand_steps::specs::Operands::operands, crate::specs::Named::named_type), unfolding(definitions::specs::TypeSafety::vec_pop_back))]
 pub fn vec_pop_back(
     area: &mut [u8],
     weight: usize,
-    s: &[u8],
-    index: &[u16],
-    view: View,
+    unit: &UnitView<'_>,
     idx: SignatureIndex,
-) -> Stepped
-    requires stacked { Stacked area.old weight }
-    requires unit_read { UnitRead s.now index.now view }
-    ensures { (p : UnitRead s.now index.now view) → StepsTo (step.vec_pop_back (compiled_unit p.decoded) idx.0) area.old weight area.new result }
+) -> PartialVMResult<usize>
+    requires { Stacked area.old weight }
+    ensures { StepsTo (step.vec_pop_back (compiled unit.now) idx.0) area.old weight area.new result }
 {
-    let top = type_stack::peek(area, weight);
-    let Top::Entry { start, len } = top else {
-        return Stepped::Refused(StatusCode::EMPTY_STACK);
+    let top = type_stack::pop(area, weight)?;
+    let at = named_element(area, top, unit, idx, true)?;
+    let declared = TypeRef {
+        bytes: unit.bytes,
+        at,
     };
-    match named_element(area, start, len, s, index, view, idx, true) {
-        TypeResult::Refused(status) => Stepped::Refused(status),
-        TypeResult::Found(declared) => {
-            let end = signature_token::end_of_type(s, declared);
-            copied_pushes::push_part(area, start, s, declared, end)
-        }
-    }
+    copied_pushes::push_part(area, top.start, &unit.bytes[at..declared.end()])
 }
 
 // `VecSwap`: both indexes are tested before the signature is looked up.
 pub fn vec_swap(
     area: &[u8],
     weight: usize,
-    s: &[u8],
-    index: &[u16],
-    view: View,
+    unit: &UnitView<'_>,
     idx: SignatureIndex,
-) -> Stepped
-    requires stacked { Stacked area.now weight }
-    requires unit_read { UnitRead s.now index.now view }
-    ensures { (p : UnitRead s.now index.now view) → StepsTo (step.vec_swap (compiled_unit p.decoded) idx.0) area.now weight area.now result }
+) -> PartialVMResult<usize>
+    requires { Stacked area.now weight }
+    ensures { StepsTo (step.vec_swap (compiled unit.now) idx.0) area.now weight area.now result }
 {
-    let top = type_stack::peek_two(area, weight);
-    let TopTwo::Entries {
-        start,
-        len: _,
-        below,
-        below_len: _,
-    } = top
-    else {
-        return Stepped::Refused(StatusCode::EMPTY_STACK);
+    let (top, below) = type_stack::pop_two(area, weight)?;
+    let vector = type_stack::pop(area, below.start)?;
+    let index1 = TypeRef {
+        bytes: area,
+        at: below.start,
     };
-    let third = type_stack::peek(area, below);
-    let Top::Entry { start: vector, len } = third else {
-        return Stepped::Refused(StatusCode::EMPTY_STACK);
+    let index2 = TypeRef {
+        bytes: area,
+        at: top.start,
     };
-    if type_tests::is_leaf(area, below, U64) {
-        if type_tests::is_leaf(area, start, U64) {
-            return match named_element(area, vector, len, s, index, view, idx, true) {
-                TypeResult::Refused(status) => Stepped::Refused(status),
-                TypeResult::Found(_) => Stepped::Next(vector),
-            };
+    if type_tests::is_leaf(index1, U64) {
+        if type_tests::is_leaf(index2, U64) {
+            named_element(area, vector, unit, idx, true)?;
+            return Ok(vector.start);
         }
     }
-    Stepped::Refused(StatusCode::TYPE_MISMATCH)
+    Err(StatusCode::TYPE_MISMATCH)
 }

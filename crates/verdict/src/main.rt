@@ -6,7 +6,8 @@ use std::io;
 
 fn main(rt: HostRuntime) -> io::Result<()> {
     let mut input = [0u8; 32769];
-    let n = verdict_line::read_full(&mut rt.reader(), &mut input)?;
+    let n = standard_input::read_full(&mut rt.reader(), &mut input)?;
     let mut area = [0u8; 16384];
-    verdict_line::print(&rt, verifier::verify_both(&input[..n], &mut area))
+    let verdict = verifier::verify_both(&input[..n], &mut area);
+    println!(rt; "{verdict}")
 }

@@ -6,6 +6,6 @@ use std::io;
 
 fn main(rt: HostRuntime) -> io::Result<()> {
     let mut input = [0u8; 65536];
-    let n = verdict_line::read_full(&mut rt.reader(), &mut input)?;
+    let n = standard_input::read_full(&mut rt.reader(), &mut input)?;
     cases::judge_all(&rt, &input[..n])
 }

@@ -2,135 +2,160 @@
 // refused before the unit is looked at; else the call leaves zeros in the whole area.
 #![tactic(auto)]
 
-ghost use Rattle.std.specs.Prelude.{◌≡◌, ◌≤◌, length, replicate};
-ghost use Rattle.definitions.specs.Reader.{read_unit, compiled_unit};
-ghost use Rattle.definitions.specs.Verify.{both_passes};
+ghost use Rattle.std.specs.Prelude.{◌≡◌, ◌≤◌, length};
+ghost use Rattle.definitions.specs.Reader.{read_unit};
+ghost use Rattle.definitions.specs.Verify.{stack_usage, type_safety, both_passes};
 ghost use Rattle.definitions.specs.Verdicts.{after_reading, reading, read_verdict, stack_usage_verdict, types_verdict, both_verdict, area_after};
-ghost use Rattle.unit.specs.Views.{UnitRead};
-ghost use Rattle.verifier.specs.Judges.{judge_of};
+ghost use Rattle.status.specs.declared.Verdict.TheVariants.{Accepted};
+ghost use Rattle.unit_tables.specs.Compiled.{compiled};
+ghost use Rattle.verifier.specs.Judges.{Judge};
 
+use record_reader::ReadError;
 use status::{Position, StatusCode, Verdict};
-use unit::{ReadUnit, View};
+use unit_tables::UnitView;
 
 // What a call runs over a unit that was read.
-#[derive(Clone, Copy)]
-enum Passes {
-    None,
-    StackUsage,
-    Types,
-    Both,
+trait Passes {
+    // the definitions' verdict on the unit, by the area's length
+    ghost judge: { Judge };
+
+    fn run(unit: &UnitView<'_>, area: &mut [u8]) -> Verdict
+        requires { length area.old ≤ 65535 }
+        ensures { result ≡ judge (length area.old) (compiled unit.now) };
 }
 
-// Writes zeros over the whole area.
-fn clear(area: &mut [u8])
-    ensures { area.new ≡ replicate (length area.old) 0 }
-{
-    let mut i = 0usize;
-    while i < area.len() {
-        area[i] = 0;
-        i += 1;
+// A unit that is read is accepted.
+struct NoPass;
+
+impl Passes for NoPass {
+    ghost judge = { λ area u. Accepted };
+
+    fn run(_unit: &UnitView<'_>, _area: &mut [u8]) -> Verdict {
+        Verdict::Accepted
+    }
+}
+
+// Stack usage alone.
+struct StackUsage;
+
+impl Passes for StackUsage {
+    ghost judge = { λ area u. stack_usage u };
+
+    fn run(unit: &UnitView<'_>, _area: &mut [u8]) -> Verdict {
+        stack_usage_verifier::verify(unit)
+    }
+}
+
+// Types alone.
+struct Types;
+
+impl Passes for Types {
+    ghost judge = { λ area u. type_safety u area };
+
+    fn run(unit: &UnitView<'_>, area: &mut [u8]) -> Verdict {
+        type_safety::verify(area, unit).verdict
     }
 }
 
 // Stack usage, and then types where it accepts. Types is walked first: where that walk is clean, stack usage accepts too, which is proved
 // (theorems, proofs/Clean), and need not be run. Where it is not, stack usage decides whether the verdict of types counts.
-fn verify_passes(area: &mut [u8], s: &[u8], index: &[u16], view: View) -> Verdict
-    requires area_len_bound { length area.old ≤ 65535 }
-    requires unit_read { UnitRead s.now index.now view }
-    ensures { (p : UnitRead s.now index.now view) → result ≡ both_passes (compiled_unit p.decoded) (length area.old) }
-{
-    let types = type_safety::verify(area, s, index, view);
-    if types.clean {
-        return Verdict::Accepted;
-    }
-    match stack_usage_verifier::verify(s, index, view) {
-        Verdict::Refused(status, position) => Verdict::Refused(status, position),
-        Verdict::Accepted => types.verdict,
+struct Both;
+
+impl Passes for Both {
+    ghost judge = { λ area u. both_passes u area };
+
+    fn run(unit: &UnitView<'_>, area: &mut [u8]) -> Verdict {
+        let types = type_safety::verify(area, unit);
+        if types.clean {
+            return Verdict::Accepted;
+        }
+        match stack_usage_verifier::verify(unit) {
+            Verdict::Refused(status, position) => Verdict::Refused(status, position),
+            Verdict::Accepted => types.verdict,
+        }
     }
 }
 
-// Reads a unit and judges it, with an index that has an entry for each of its bytes.
-fn judge_in(s: &[u8], area: &mut [u8], index: &mut [u16], passes: Passes) -> Verdict
+// Reads a unit and judges it, with an index of N entries, one for each byte or more.
+fn judge_in<P: Passes, const N: usize>(s: &[u8], area: &mut [u8]) -> Verdict
     requires area_len_bound { length area.old ≤ 65535 }
-    requires s_in_bounds { length s.now ≤ 32768 → length s.now ≤ length index.old }
-    ensures { result ≡ after_reading (read_unit s.now) (judge_of passes (length area.old)) }
+    requires index_len_bound { length s.now ≤ 32768 → length s.now ≤ N }
+    requires n_bound { N ≤ 32768 }
+    ensures { result ≡ after_reading (read_unit s.now) (P.judge (length area.old)) }
 {
-    match unit::read(s, index) {
-        ReadUnit::Refused(status, p) => Verdict::Refused(status, Position::Byte(p as u16)),
-        ReadUnit::Unit(view) => match passes {
-            Passes::None => Verdict::Accepted,
-            Passes::StackUsage => stack_usage_verifier::verify(s, index, view),
-            Passes::Types => {
-                let types = type_safety::verify(area, s, index, view);
-                types.verdict
-            }
-            Passes::Both => verify_passes(area, s, index, view),
-        },
+    let mut index = [0u16; N];
+    match unit::read(s, &mut index) {
+        Err(ReadError { status, at }) => Verdict::Refused(status, Position::Byte(at as u16)),
+        Ok(view) => {
+            let unit = UnitView {
+                bytes: s,
+                index: &index,
+                view,
+            };
+            P::run(&unit, area)
+        }
     }
 }
 
 // Reads a unit and judges it. An index is zeroed before it is filled, so a unit takes the shortest of four that has an entry for each byte.
-fn judge(s: &[u8], area: &mut [u8], passes: Passes) -> Verdict
+fn judge<P: Passes>(s: &[u8], area: &mut [u8]) -> Verdict
     requires { length area.old ≤ 65535 }
-    ensures { result ≡ after_reading (read_unit s.now) (judge_of passes (length area.old)) }
+    ensures { result ≡ after_reading (read_unit s.now) (P.judge (length area.old)) }
 {
-    if s.len() <= 256 {
-        let mut tiny = [0u16; 256];
-        return judge_in(s, area, &mut tiny, passes);
+    match s.len() {
+        0..=256 => judge_in::<P, 256>(s, area),
+        257..=1024 => judge_in::<P, 1024>(s, area),
+        1025..=4096 => judge_in::<P, 4096>(s, area),
+        _ => judge_in::<P, 32768>(s, area),
     }
-    if s.len() <= 1024 {
-        let mut short = [0u16; 1024];
-        return judge_in(s, area, &mut short, passes);
-    }
-    if s.len() <= 4096 {
-        let mut medium = [0u16; 4096];
-        return judge_in(s, area, &mut medium, passes);
-    }
-    let mut index = [0u16; 32768];
-    judge_in(s, area, &mut index, passes)
 }
 
 // What every public call does: AREA first, then the unit is read and judged. The area is zeros afterwards, or untouched if it was refused.
-fn call(s: &[u8], area: &mut [u8], passes: Passes) -> Verdict
-    ensures value { result ≡ reading s.now (length area.old) (judge_of passes (length area.old)) }
+#[tactic(auto, using(crate::proofs::Calls::called))]
+fn call<P: Passes>(s: &[u8], area: &mut [u8]) -> Verdict
+    ensures value { result ≡ reading s.now (length area.old) (P.judge (length area.old)) }
     ensures area_after { area.new ≡ area_after area.old }
 {
     if 65535 < area.len() {
         return Verdict::Refused(StatusCode::AREA, Position::Byte(0));
     }
-    let verdict = judge(s, area, passes);
-    clear(area);
+    let verdict = judge::<P>(s, area);
+    area.fill(0);
     verdict
 }
 
 // Document 01's "read a unit".
+#[tactic(auto, unfolding(definitions::specs::Verdicts::read_verdict))]
 pub fn read_unit(s: &[u8], area: &mut [u8]) -> Verdict
     ensures value { result ≡ read_verdict s.now (length area.old) }
     ensures area_after { area.new ≡ area_after area.old }
 {
-    call(s, area, Passes::None)
+    call::<NoPass>(s, area)
 }
 
 // Document 01's "stack usage".
+#[tactic(auto, unfolding(definitions::specs::Verdicts::stack_usage_verdict))]
 pub fn verify_stack_usage(s: &[u8], area: &mut [u8]) -> Verdict
     ensures value { result ≡ stack_usage_verdict s.now (length area.old) }
     ensures area_after { area.new ≡ area_after area.old }
 {
-    call(s, area, Passes::StackUsage)
+    call::<StackUsage>(s, area)
 }
 
 // Document 01's "types".
+#[tactic(auto, unfolding(definitions::specs::Verdicts::types_verdict))]
 pub fn verify_types(s: &[u8], area: &mut [u8]) -> Verdict
     ensures value { result ≡ types_verdict s.now (length area.old) }
     ensures area_after { area.new ≡ area_after area.old }
 {
-    call(s, area, Passes::Types)
+    call::<Types>(s, area)
 }
 
 // Document 01's "both": stack usage first.
+#[tactic(auto, unfolding(definitions::specs::Verdicts::both_verdict))]
 pub fn verify_both(s: &[u8], area: &mut [u8]) -> Verdict
     ensures value { result ≡ both_verdict s.now (length area.old) }
     ensures area_after { area.new ≡ area_after area.old }
 {
-    call(s, area, Passes::Both)
+    call::<Both>(s, area)
 }

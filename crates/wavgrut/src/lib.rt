@@ -8,13 +8,14 @@ ghost use Rattle.wavgrut.specs.Packed.{packed};
 
 use status::Verdict;
 
-// A verdict as one number: document 01's number in bits 0 to 7, the letter in bits 8 to 15, the place in bits 16 to 31.
+// A verdict as one number: document 01's number in bits 0 to 7, the letter in bits 8 to 15, the place in bits 16 to 31. An impl of
+// From would have to stand in crate status, which knows nothing of C.
 fn pack(verdict: Verdict) -> u64
     ensures { result ≡ packed verdict }
 {
-    let number = verdict.number() as u64;
-    let letter = verdict.letter() as u64;
-    let place = verdict.place() as u64;
+    let number = u64::from(verdict.number());
+    let letter = u64::from(verdict.letter());
+    let place = u64::from(verdict.place());
     number + 256 * letter + 65536 * place
 }
 

@@ -1,55 +1,36 @@
 -- The parameters' signature is looked up before the pops, the returns' after them; what is left are the pops and the pushes of a list.
-use mathlib.Core.Path.{refl}
-use native.Mathlib.Omega.{arith}
+use Rattle.std.specs.Prelude.{refl}
 use Rattle.definitions.specs.TypeSafety as step
+use Rattle.type_stack.specs.Answers.{exit_is}
 use Rattle.type_stack.specs.Stepping.{and_then, and_bad, and_stacked}
-use Rattle.unit_tables.specs.Tables.{unit_short}
-use Rattle.step_views.specs.Looked.{signature_then, signature_bad, found_types}
+use Rattle.step_views.specs.Looked.{looked_bad, types_then, found_types}
 use Rattle.list_steps.specs.Forms.{formed}
 use Rattle.call_steps.proofs.call.Goals as goal
 
-pub pop_each-requires : goal.pop_each-requires
-unfolding step.call formed
-pop_each-requires c =
-    record {
-      stacked = c.requires.stacked;
-      types_in = ((found_types (c.signature_at.ensures c.requires.unit_read) c.in-Found.is), omega (arith, unit_short c.requires.unit_read));
-      arguments = c.requires.arguments;
-    }
+pub push_each-pushed-requires-clause-stacked : goal.push_each-pushed-requires-clause-stacked
+push_each-pushed-requires-clause-stacked c =
+    and_stacked (c.in_ok-below.ensures.steps (found_types c.in_ok-parameters.ensures) c.args.args.stand) c.requires refl refl
 
-pub push_each-pushed-requires : goal.push_each-pushed-requires
+pub returns-in_err-parameters : goal.returns-in_err-parameters
 unfolding step.call formed
-push_each-pushed-requires c =
-    let popped = c.pop_each.ensures.steps (found_types (c.signature_at.ensures c.requires.unit_read) c.in-Found.is) c.requires.arguments in
-    let pushed = found_types (c.signature_at-in-Next.ensures c.requires.unit_read) c.in-Found-signature_at.is in
-    record {
-      stacked = and_stacked popped c.requires.stacked c.in-Next.is refl;
-      types_in = pushed;
-      arguments = c.requires.arguments;
-    }
+returns-in_err-parameters c = λ q. rw (exit_is c.from_residual.ensures.1) (looked_bad _ c.in_err-parameters.ensures)
 
-pub returns-in-Refused : goal.returns-in-Refused
+pub returns-in_err-below : goal.returns-in_err-below
 unfolding step.call formed
-returns-in-Refused c = λ p q. signature_bad (c.signature_at.ensures p) _ c.in-Refused.is
+returns-in_err-below c =
+    λ q. rw (exit_is c.from_residual-in_err-below.ensures.1)
+    (types_then _ c.in_ok-parameters.ensures (λ ts. and_bad (c.in_err-below.ensures.steps ts q) _ refl))
 
-pub returns-in-Refused-pop_each : goal.returns-in-Refused-pop_each
+pub returns-in_err-returns : goal.returns-in_err-returns
 unfolding step.call formed
-returns-in-Refused-pop_each c =
-    λ p q. signature_then (c.signature_at.ensures p) _ c.in-Found.is
-    (λ ts. and_bad (c.pop_each.ensures.steps ts q) _ c.in-Refused-pop_each.is)
+returns-in_err-returns c =
+    λ q. rw (exit_is c.from_residual-in_err-returns.ensures.1)
+    (types_then _ c.in_ok-parameters.ensures (λ ts. and_then (c.in_ok-below.ensures.steps ts q) _ refl (looked_bad _ c.in_err-returns.ensures)))
 
-pub returns-in-Refused-signature_at : goal.returns-in-Refused-signature_at
+pub returns : goal.returns
 unfolding step.call formed
-returns-in-Refused-signature_at c =
-    λ p q. signature_then (c.signature_at.ensures p) _ c.in-Found.is
-    (λ ts. and_then (c.pop_each.ensures.steps ts q) _ c.in-Next.is
-    (signature_bad (c.signature_at-in-Next.ensures p) _ c.in-Refused-signature_at.is))
-
-pub returns-in-Found-signature_at : goal.returns-in-Found-signature_at
-unfolding step.call formed
-returns-in-Found-signature_at c =
-    λ p q. rw c.rebuilt.ensures
-    (signature_then (c.signature_at.ensures p) _ c.in-Found.is
-    (λ ts. and_then (c.pop_each.ensures.steps ts q) _ c.in-Next.is
-    (signature_then (c.signature_at-in-Next.ensures p) _ c.in-Found-signature_at.is
-    (λ us. c.push_each-pushed.ensures.steps us q))))
+returns c =
+    λ q. rw c.rebuilt.ensures
+    (types_then _ c.in_ok-parameters.ensures
+    (λ ts. and_then (c.in_ok-below.ensures.steps ts q) _ refl
+    (types_then _ c.in_ok-returns.ensures (λ us. c.push_each-pushed.ensures.steps us q))))

@@ -1,10 +1,6 @@
--- `judge_all`: each case takes some bytes and no more than there are, so the walk ends within the input.
-use Prim.Native.Nat.{◌-◌, ◌≤◌}
-use lib.ListN.{length}
+-- `judge_all`: each case takes some of the bytes that are left.
+use Rattle.std.proofs.Common.{length}
 use Rattle.cases.proofs.judge_all.Given as goal
 
-abbrev pub invariant-loop-at : goal.invariant-loop-at
-invariant-loop-at g l = l.at ≤ length l.input
-
-abbrev pub decreases-loop-at : goal.decreases-loop-at
-decreases-loop-at g l = length l.input - l.at
+abbrev pub decreases-loop-rest : goal.decreases-loop-rest
+decreases-loop-rest g l = length l.rest

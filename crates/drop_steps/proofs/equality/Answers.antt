@@ -1,47 +1,36 @@
 -- The top of two operands is asked for drop, and compared with the other; a bool is pushed in their place.
-use Rattle.definitions.specs.TypeSafety as step
 use mathlib.Core.Path.{refl}
+use Rattle.definitions.specs.TypeSafety as step
 use Rattle.signature_token.specs.TokenLaws.{is_bool}
+use Rattle.type_stack.specs.Answers.{exit_is}
 use Rattle.type_stack.specs.Stepping.{two_none, two_then, check_then, check_bad}
-use Rattle.operand_steps.specs.Operands.{operands, operand, span, no_left, no_right, yes_both, push_leaf}
+use Rattle.operand_steps.specs.Operands.{operand, span, no_left, no_right, yes_both, push_leaf}
 use Rattle.step_views.specs.Checks.{ability_then, ability_bad}
 use Rattle.drop_steps.proofs.equality.Goals as goal
 
-pub returns-in_default : goal.returns-in_default
+pub returns-in_err-top : goal.returns-in_err-top
 unfolding step.equality
-returns-in_default c = λ p. two_none c.peek_two-top.ensures _ c.in_default.is
+returns-in_err-top c = rw (exit_is c.from_residual.ensures.1) (two_none c.in_err-top.ensures _)
 
-pub check_ability-requires : goal.check_ability-requires
+pub returns-in_err-check_ability : goal.returns-in_err-check_ability
 unfolding step.equality
-check_ability-requires c = search operands
-
-pub same_type-requires : goal.same_type-requires
-unfolding step.equality
-same_type-requires c = search operands
-
-pub push_leaf-requires : goal.push_leaf-requires
-unfolding step.equality
-push_leaf-requires c = search operands
-
-pub returns-in-Refused : goal.returns-in-Refused
-unfolding step.equality
-returns-in-Refused c =
-    λ p. two_then c.peek_two-top.ensures c.in-Entries.is
-    (λ t u h k. ability_bad (c.check_ability.ensures p (operand h)) c.in-Refused.is
-    (λ set m. check_bad _ (no_left _ refl m)))
+returns-in_err-check_ability c =
+    rw (exit_is c.from_residual-in_err-check_ability.ensures.1)
+    (two_then c.in_ok-top.ensures
+    (λ t u h k. ability_bad (c.in_err-check_ability.ensures (operand h)) (λ set m. check_bad _ (no_left _ refl m))))
 
 pub returns-then-same_type : goal.returns-then-same_type
 unfolding step.equality
 returns-then-same_type c =
-    λ p. two_then c.peek_two-top.ensures c.in-Entries.is
-    (λ t u h k. ability_then (c.check_ability.ensures p (operand h)) c.in-Passed.is
+    two_then c.in_ok-top.ensures
+    (λ t u h k. ability_then (c.in_ok-check_ability.ensures (operand h))
     (λ set m. check_then _ _
     (yes_both refl m (c.same_type.ensures (span h) (operand k)) c.if-same_type.true)
     (push_leaf c.push_leaf.ensures is_bool)))
 
-pub returns-else-same_type : goal.returns-else-same_type
+pub returns : goal.returns
 unfolding step.equality
-returns-else-same_type c =
-    λ p. two_then c.peek_two-top.ensures c.in-Entries.is
-    (λ t u h k. ability_then (c.check_ability.ensures p (operand h)) c.in-Passed.is
+returns c =
+    two_then c.in_ok-top.ensures
+    (λ t u h k. ability_then (c.in_ok-check_ability.ensures (operand h))
     (λ set m. check_bad _ (no_right refl m (c.same_type.ensures (span h) (operand k)) c.if-same_type.false)))

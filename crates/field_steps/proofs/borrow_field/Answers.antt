@@ -1,79 +1,55 @@
 -- The stack is empty, or the operand is not the `&mut` asked for, or there is no such field handle, or the operand is a value, or the field
 -- is borrowed from the struct that the operand refers to.
-use native.Mathlib.Omega.{arith}
-use Rattle.type_stack.specs.Stepping.{pop_none, pop_then, check_then, check_bad, look_then, look_bad}
+use Rattle.type_stack.specs.Answers.{exit_is}
+use Rattle.type_stack.specs.Stepping.{pop_none, pop_then, check_then, look_then, look_bad}
 use Rattle.type_stack.specs.Tops.{topped}
-use Rattle.operand_steps.specs.Operands.{operands}
-use Rattle.unit_tables.specs.Tables.{unit_short}
-use Rattle.field_steps.specs.Operand.{not_mutable, a_value, a_reference}
-use Rattle.field_steps.specs.Owners.{found_owner, owner_then, owner_bad}
+use Rattle.step_views.specs.Looked.{looked_bad}
+use Rattle.field_steps.specs.Operand.{refused_early, passed, no_referent, a_reference}
+use Rattle.field_steps.specs.Owners.{owner_then}
 use Rattle.field_steps.specs.Program.{borrow_by_parts, by_parts}
 use Rattle.field_steps.proofs.borrow_field.Goals as goal
 
-pub returns-in_default : goal.returns-in_default
+pub returns-in_err-top : goal.returns-in_err-top
 unfolding borrow_by_parts
-returns-in_default c = λ p q. by_parts _ _ _ _ (pop_none c.peek-top.ensures _ c.in_default.is)
+returns-in_err-top c = rw (exit_is c.from_residual.ensures.1) (λ q. by_parts _ _ _ _ (pop_none c.in_err-top.ensures _))
 
-pub borrowed_at-requires : goal.borrowed_at-requires
+pub returns-in_err-referent : goal.returns-in_err-referent
 unfolding borrow_by_parts
-borrowed_at-requires c = search operands
+returns-in_err-referent c =
+    rw (exit_is c.from_residual-in_err-referent.ensures.1)
+    (λ q. by_parts _ _ _ _ (pop_then c.in_ok-top.ensures (λ t h. refused_early h c.in_err-referent.ensures _)))
 
-pub overflow_sub-len : goal.overflow_sub-len
+pub returns-in_err-owner : goal.returns-in_err-owner
 unfolding borrow_by_parts
-overflow_sub-len c =
-    (a_reference c.borrowed_at.ensures (topped c.requires.stacked c.peek-top.ensures c.in-Entry.is).here
-    c.in-Inner.is).room
+returns-in_err-owner c =
+    rw (exit_is c.from_residual-in_err-owner.ensures.1)
+    (λ q. by_parts _ _ _ _
+    (pop_then c.in_ok-top.ensures
+    (λ t h. check_then _ _ (passed h c.in_ok-referent.ensures) (looked_bad _ c.in_err-owner.ensures))))
 
-pub borrow_from-requires : goal.borrow_from-requires
+pub returns-in_err-at : goal.returns-in_err-at
 unfolding borrow_by_parts
-borrow_from-requires c =
-    let o = (topped c.requires.stacked c.peek-top.ensures c.in-Entry.is) in
-    record {
-      stacked = (o.under, (a_reference c.borrowed_at.ensures o.here c.in-Inner.is).span);
-      owner_at = (
-        found_owner (c.field_owner-in-Inner.ensures c.requires.unit_read) c.in-Found-field_owner.is,
-        c.requires.types_in,
-        omega (arith, unit_short c.requires.unit_read),
-      );
-    }
+returns-in_err-at c =
+    rw (exit_is c.from_residual-in_err-at.ensures.1)
+    (λ q. by_parts _ _ _ _
+    (pop_then c.in_ok-top.ensures
+    (λ t h. check_then _ _ (passed h c.in_ok-referent.ensures)
+    (owner_then c.in_ok-owner.ensures _ (λ o. look_bad _ (no_referent h c.in_ok-referent.ensures c.in_err-at.ensures.value))))))
 
-pub returns-in-NotMutable : goal.returns-in-NotMutable
-unfolding borrow_by_parts
-returns-in-NotMutable c =
-    λ p q. by_parts _ _ _ _
-    (pop_then c.peek-top.ensures c.in-Entry.is
-    (λ t h. check_bad _ (not_mutable c.borrowed_at.ensures h c.in-NotMutable.is)))
+pub overflow_sub-top : goal.overflow_sub-top
+overflow_sub-top c = (a_reference (topped c.requires.stacked c.in_ok-top.ensures).here c.in_ok-referent.ensures c.in_ok-at.ensures.value).room
 
-pub returns-in-Refused : goal.returns-in-Refused
-unfolding borrow_by_parts
-returns-in-Refused c =
-    λ p q. by_parts _ _ _ _
-    (pop_then c.peek-top.ensures c.in-Entry.is
-    (λ t h. check_then _ _ (a_value c.borrowed_at.ensures h c.in-Value.is).0
-    (owner_bad (c.field_owner.ensures p) _ c.in-Refused.is)))
+pub borrow_from-requires-clause-stacked : goal.borrow_from-requires-clause-stacked
+borrow_from-requires-clause-stacked c =
+    let o = topped c.requires.stacked c.in_ok-top.ensures in
+    (o.under, (a_reference o.here c.in_ok-referent.ensures c.in_ok-at.ensures.value).span)
 
-pub returns-in-Found : goal.returns-in-Found
+pub returns : goal.returns
 unfolding borrow_by_parts
-returns-in-Found c =
-    λ p q. by_parts _ _ _ _
-    (pop_then c.peek-top.ensures c.in-Entry.is
-    (λ t h. let v = a_value c.borrowed_at.ensures h c.in-Value.is in
-    check_then _ _ v.0 (owner_then (c.field_owner.ensures p) _ c.in-Found.is (λ o. look_bad _ (rw v.1)))))
-
-pub returns-in-Refused-field_owner : goal.returns-in-Refused-field_owner
-unfolding borrow_by_parts
-returns-in-Refused-field_owner c =
-    λ p q. by_parts _ _ _ _
-    (pop_then c.peek-top.ensures c.in-Entry.is
-    (λ t h. check_then _ _ (a_reference c.borrowed_at.ensures h c.in-Inner.is).passes
-    (owner_bad (c.field_owner-in-Inner.ensures p) _ c.in-Refused-field_owner.is)))
-
-pub returns-in-Found-field_owner : goal.returns-in-Found-field_owner
-unfolding borrow_by_parts
-returns-in-Found-field_owner c =
-    λ p q. by_parts _ _ _ _
-    (pop_then c.peek-top.ensures c.in-Entry.is
-    (λ t h. let n = a_reference c.borrowed_at.ensures h c.in-Inner.is in
+returns c =
+    λ q. by_parts _ _ _ _
+    (pop_then c.in_ok-top.ensures
+    (λ t h. let n = a_reference h c.in_ok-referent.ensures c.in_ok-at.ensures.value in
     check_then _ _ n.passes
-    (owner_then (c.field_owner-in-Inner.ensures p) _ c.in-Found-field_owner.is
+    (owner_then c.in_ok-owner.ensures _
     (λ o. look_then _ (rw n.is) (c.borrow_from.ensures.steps o q n.span)))))

@@ -1,51 +1,46 @@
 -- The referent is another struct, or there is no such field, or a reference to the field's type is pushed.
 use native.Mathlib.Omega.{arith}
-use Rattle.type_stack.specs.Stepping.{check_then, check_bad}
-use Rattle.step_views.specs.Checks.{found_type, type_then, type_bad}
 use Rattle.record_views.specs.Reread.{types_at}
+use Rattle.type_stack.specs.Answers.{exit_is}
+use Rattle.type_stack.specs.Stepping.{check_then, check_bad}
+use Rattle.step_views.specs.Looked.{looked_bad, found_type, type_then, unit_room}
 use Rattle.list_steps.specs.Made.{list_small, arguments_of}
 use Rattle.field_steps.specs.Borrows.{borrow_from}
 use Rattle.field_steps.specs.Program.{struct_test}
 use Rattle.field_steps.proofs.borrow_from.Goals as goal
 
-pub type_places-requires : goal.type_places-requires
-unfolding borrow_from
-type_places-requires c =
-    let q = c.requires.owner_at.1 in
-    record {
-      types_at = types_at q;
-      n_in_bounds = (list_small q, omega (arith, c.requires.owner_at.2));
-    }
-
-pub push_field_reference-requires : goal.push_field_reference-requires
-unfolding borrow_from
-push_field_reference-requires c =
-    record {
-      stacked = c.requires.stacked.0;
-      type_at = found_type (c.field_at.ensures.is c.requires.owner_at.0) c.in-Found.is;
-      arguments = arguments_of c.requires.owner_at.1 c.type_places.ensures;
-    }
-
 pub returns-then-not-struct_is : goal.returns-then-not-struct_is
 unfolding borrow_from
 returns-then-not-struct_is c = record { steps = λ o l p. check_bad _ (struct_test c.struct_is.ensures c.if-not-struct_is.true o l p) }
 
-pub returns-in-Refused : goal.returns-in-Refused
+pub returns-in_err-field : goal.returns-in_err-field
 unfolding borrow_from
-returns-in-Refused c =
-    record {
+returns-in_err-field c =
+    rw (exit_is c.from_residual.ensures.1)
+    (record {
       steps = λ o l p. check_then _ _
           (struct_test c.struct_is.ensures c.if-not-struct_is.false o l p)
-          (type_bad (c.field_at.ensures.is o) _ c.in-Refused.is);
-    }
+          (looked_bad _ (c.in_err-field.ensures.is o));
+    })
 
-pub returns-in-Found : goal.returns-in-Found
+pub invariant_of-types : goal.invariant_of-types
 unfolding borrow_from
-returns-in-Found c =
+invariant_of-types c = record { stand = types_at c.requires.owner_at.1 }
+
+pub placed-args-requires : goal.placed-args-requires
+unfolding borrow_from
+placed-args-requires c = (list_small c.requires.owner_at.1, omega (arith, unit_room c.args.unit.now))
+
+pub invariant_of-field_def : goal.invariant_of-field_def
+unfolding borrow_from
+invariant_of-field_def c = record { stands = found_type (c.in_ok-field.ensures.is c.requires.owner_at.0) }
+
+pub returns : goal.returns
+unfolding borrow_from
+returns c =
     record {
       steps = λ o l p. check_then _ _
           (struct_test c.struct_is.ensures c.if-not-struct_is.false o l p)
-          (type_then (c.field_at.ensures.is o) _ c.in-Found.is
-          (λ q. c.push_field_reference.ensures.steps q
-          (arguments_of l c.type_places.ensures)));
+          (type_then _ (c.in_ok-field.ensures.is o)
+          (λ q. c.push_field_reference.ensures.steps q (arguments_of l c.placed-args.ensures)));
     }

@@ -1,22 +1,15 @@
--- `field_instantiation_at`: the record that the table has; a script has no such table.
-use mathlib.Core.Path.{sym, ap}
-use Rattle.handle_views.specs.declared.PairAt.TheVariants.{OutOfTable}
-use Rattle.handle_views.specs.Lookups.{field_instantiations_fit, field_instantiation_is, field_instantiation_script}
-use Rattle.handle_views.specs.Answers.{field_instantiation_answer}
+-- `field_instantiation_at`: the record that the table has, or its refusal.
+use Rattle.std.proofs.lemmas.Result.{err_from_is_err_and}
+use Rattle.handle_views.specs.Lookups.{field_instantiation_fit, field_instantiation_found, field_instantiation_refused}
 use Rattle.handle_views.proofs.field_instantiation_at.Goals as goal
 
-pub pair_at-requires : goal.pair_at-requires
-pair_at-requires c = field_instantiations_fit c.requires
+pub module_pair_at-requires : goal.module_pair_at-requires
+module_pair_at-requires c = field_instantiation_fit c.args.unit.now
 
-pub returns-in-Script : goal.returns-in-Script
-returns-in-Script c = λ p. sym (ap field_instantiation_answer (field_instantiation_script p _ c.in-Script.is))
+pub returns : goal.returns
+returns c = field_instantiation_found c.args.unit.now c.in_ok-handle.ensures
 
-pub returns-in-Pair : goal.returns-in-Pair
-returns-in-Pair c =
-    λ p. sym (ap field_instantiation_answer
-    (field_instantiation_is p c.in-Module.is c.pair_at.ensures _ c.in-Pair.is))
-
-pub returns-in-OutOfTable : goal.returns-in-OutOfTable
-returns-in-OutOfTable c =
-    λ p. sym (ap field_instantiation_answer
-    (field_instantiation_is p c.in-Module.is c.pair_at.ensures OutOfTable c.in-OutOfTable.is))
+pub returns-in_err-handle : goal.returns-in_err-handle
+returns-in_err-handle c =
+    let p = err_from_is_err_and c.from_residual.result c.from_residual.ensures.1 in
+    rw (p.1, p.2) (field_instantiation_refused c.args.unit.now c.in_err-handle.ensures)

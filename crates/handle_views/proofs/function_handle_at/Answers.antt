@@ -1,15 +1,9 @@
 -- `function_handle_at`: the record that the table has.
-use mathlib.Core.Path.{sym, ap}
-use Rattle.handle_views.specs.declared.PairAt.TheVariants.{OutOfTable}
-use Rattle.handle_views.specs.Lookups.{function_handles_fit, function_handle_is}
-use Rattle.handle_views.specs.Answers.{function_handle_answer}
+use Rattle.handle_views.specs.Lookups.{function_handle_fit, function_handle_found}
 use Rattle.handle_views.proofs.function_handle_at.Goals as goal
 
 pub pair_at-requires : goal.pair_at-requires
-pair_at-requires c = function_handles_fit c.requires
+pair_at-requires c = function_handle_fit c.args.unit.now
 
-pub returns-in-Pair : goal.returns-in-Pair
-returns-in-Pair c = λ p. sym (ap function_handle_answer (function_handle_is p c.pair_at.ensures _ c.in-Pair.is))
-
-pub returns-in-OutOfTable : goal.returns-in-OutOfTable
-returns-in-OutOfTable c = λ p. sym (ap function_handle_answer (function_handle_is p c.pair_at.ensures OutOfTable c.in-OutOfTable.is))
+pub returns : goal.returns
+returns c = function_handle_found c.args.unit.now c.in_ok-parameters.ensures

@@ -1,9 +1,6 @@
--- The pair of the opcode that stands there, and the look-up where it is marked.
-use Rattle.instruction_effect.proofs.Looked.{marked, in_table}
+-- The pair of the opcode that stands there, where it is not marked.
+use Rattle.instruction_effect.proofs.Looked.{in_table}
 use Rattle.instruction_effect.proofs.instruction_effect.Goals as goal
 
-pub looked_up_effect-requires-clause-i_value : goal.looked_up_effect-requires-clause-i_value
-looked_up_effect-requires-clause-i_value c = marked c.requires.unit_read c.requires.i_lt_count c.requires.entry_of c.if-pops.true
-
 pub returns : goal.returns
-returns c = λ p. in_table p c.requires.i_lt_count c.requires.entry_of c.if-pops.false
+returns c = rw (c.from.ensures, c.from-2.ensures) (in_table c.args.unit.now c.requires.i_lt_count c.requires.entry_of c.if-pops.false)

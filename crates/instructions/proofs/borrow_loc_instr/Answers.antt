@@ -3,4 +3,4 @@ use Rattle.instructions.specs.Does.{borrow_does}
 use Rattle.instructions.proofs.borrow_loc_instr.Goals as goal
 
 pub returns : goal.returns
-returns c = λ p. borrow_does c.requires.between (c.borrow_loc.ensures p)
+returns c = borrow_does c.requires.between c.borrow_loc.ensures

@@ -7,8 +7,8 @@ use Rattle.instructions.proofs.call_instr.Goals as goal
 
 pub returns-in-17 : goal.returns-in-17
 unfolding instruction_of verify_instr
-returns-in-17 c = λ p. key_does 17 (omega arith) (c.function_call.ensures p)
+returns-in-17 c = key_does 17 (omega arith) c.function_call.ensures
 
 pub returns-in_default : goal.returns-in_default
 unfolding instruction_of verify_instr
-returns-in_default c = λ p. key_does 18 (omega arith) (c.function_call_generic.ensures p)
+returns-in_default c = key_does 18 (omega arith) c.function_call_generic.ensures

@@ -10,7 +10,6 @@ unfolding instruction_of verify_instr no_types
 borrow_field-requires c =
     record {
       stacked = c.requires.stacked;
-      unit_read = c.requires.unit_read;
       types_in = no_types _;
     }
 
@@ -19,22 +18,21 @@ unfolding instruction_of verify_instr no_types
 borrow_field-requires-in-30 c =
     record {
       stacked = c.requires.stacked;
-      unit_read = c.requires.unit_read;
       types_in = no_types _;
     }
 
 pub returns-in-28 : goal.returns-in-28
 unfolding instruction_of verify_instr no_types
-returns-in-28 c = λ p. key_does 28 (omega arith) (c.borrow_field.ensures p (no_types _))
+returns-in-28 c = key_does 28 (omega arith) (c.borrow_field.ensures (no_types _))
 
 pub returns-in-29 : goal.returns-in-29
 unfolding instruction_of verify_instr no_types
-returns-in-29 c = λ p. key_does 29 (omega arith) (c.borrow_field_generic.ensures p)
+returns-in-29 c = key_does 29 (omega arith) c.borrow_field_generic.ensures
 
 pub returns-in-30 : goal.returns-in-30
 unfolding instruction_of verify_instr no_types
-returns-in-30 c = λ p. key_does 30 (omega arith) (c.borrow_field-in-30.ensures p (no_types _))
+returns-in-30 c = key_does 30 (omega arith) (c.borrow_field-in-30.ensures (no_types _))
 
 pub returns-in_default : goal.returns-in_default
 unfolding instruction_of verify_instr no_types
-returns-in_default c = λ p. key_does 31 (omega arith) (c.borrow_field_generic-in_default.ensures p)
+returns-in_default c = key_does 31 (omega arith) c.borrow_field_generic-in_default.ensures

@@ -10,7 +10,6 @@ unfolding instruction_of verify_instr no_types
 borrow_global-requires c =
     record {
       stacked = c.requires.stacked;
-      unit_read = c.requires.unit_read;
       types_in = no_types _;
     }
 
@@ -19,22 +18,21 @@ unfolding instruction_of verify_instr no_types
 borrow_global-requires-in-34 c =
     record {
       stacked = c.requires.stacked;
-      unit_read = c.requires.unit_read;
       types_in = no_types _;
     }
 
 pub returns-in-32 : goal.returns-in-32
 unfolding instruction_of verify_instr no_types
-returns-in-32 c = λ p. key_does 32 (omega arith) (c.borrow_global.ensures p (no_types _))
+returns-in-32 c = key_does 32 (omega arith) (c.borrow_global.ensures (no_types _))
 
 pub returns-in-33 : goal.returns-in-33
 unfolding instruction_of verify_instr no_types
-returns-in-33 c = λ p. key_does 33 (omega arith) (c.borrow_global_generic.ensures p)
+returns-in-33 c = key_does 33 (omega arith) c.borrow_global_generic.ensures
 
 pub returns-in-34 : goal.returns-in-34
 unfolding instruction_of verify_instr no_types
-returns-in-34 c = λ p. key_does 34 (omega arith) (c.borrow_global-in-34.ensures p (no_types _))
+returns-in-34 c = key_does 34 (omega arith) (c.borrow_global-in-34.ensures (no_types _))
 
 pub returns-in_default : goal.returns-in_default
 unfolding instruction_of verify_instr no_types
-returns-in_default c = λ p. key_does 35 (omega arith) (c.borrow_global_generic-in_default.ensures p)
+returns-in_default c = key_does 35 (omega arith) c.borrow_global_generic-in_default.ensures

@@ -7,7 +7,7 @@ use Rattle.definitions.specs.TypeSafety.{verify_instr}
 use Rattle.record_views.specs.Records.{instruction_of}
 use Rattle.signature_token.specs.TokenLaws.{is_bool, is_u64}
 use Rattle.type_stack.specs.Stepping.{done_here}
-use Rattle.type_stack.specs.declared.Stepped.{Stepped}
+use Rattle.type_stack.specs.Answers.{Stepped}
 use Rattle.instruction_arms.specs.declared.Arm.{Arm}
 use Rattle.instruction_arms.specs.Arms.{opcodes, InArm}
 use Rattle.code_views.specs.Answers.{InstructionAt}
@@ -24,112 +24,112 @@ done z k h = does_at k (range_does (between z refl) h)
 
 pub arm_of-requires : goal.arm_of-requires
 unfolding instruction_of verify_instr Each encode
-arm_of-requires c = (c.instruction_at-it.ensures c.requires.unit_read).known
+arm_of-requires c = c.instruction_at-it.ensures.known
 
 pub returns-in-Pop : goal.returns-in-Pop
 unfolding instruction_of verify_instr Each encode
-returns-in-Pop c = λ p. done c.in-Pop.ensures (c.instruction_at-it.ensures p) (c.pop_step.ensures p)
+returns-in-Pop c = done c.in-Pop.ensures c.instruction_at-it.ensures c.pop_step.ensures
 
 pub returns-in-Ret : goal.returns-in-Ret
 unfolding instruction_of verify_instr Each encode
-returns-in-Ret c = λ p. done c.in-Ret.ensures (c.instruction_at-it.ensures p) (c.ret_step.ensures p)
+returns-in-Ret c = done c.in-Ret.ensures c.instruction_at-it.ensures c.ret_step.ensures
 
 pub returns-in-BrBool : goal.returns-in-BrBool
 unfolding instruction_of verify_instr Each encode
 returns-in-BrBool c =
-    λ p. let h = c.pop_leaf.ensures.steps Bool' is_bool in
-    done c.in-BrBool.ensures (c.instruction_at-it.ensures p) (h, h)
+    let h = c.pop_leaf.ensures.steps Bool' is_bool in
+    done c.in-BrBool.ensures c.instruction_at-it.ensures (h, h)
 
 pub returns-in-Branch : goal.returns-in-Branch
 unfolding instruction_of verify_instr Each encode
-returns-in-Branch c = λ p. done c.in-Branch.ensures (c.instruction_at-it.ensures p) done_here
+returns-in-Branch c = done c.in-Branch.ensures c.instruction_at-it.ensures done_here
 
 pub returns-in-LdInteger : goal.returns-in-LdInteger
 unfolding instruction_of verify_instr Each encode
 returns-in-LdInteger c =
-    λ p. does_at (c.instruction_at-it.ensures p)
+    does_at c.instruction_at-it.ensures
     (load_does (between c.in-LdInteger.ensures refl)
     (rw c.integer_type.ensures at c.push_leaf.ensures))
 
 pub returns-in-Cast : goal.returns-in-Cast
 unfolding instruction_of verify_instr Each encode
 returns-in-Cast c =
-    λ p. does_at (c.instruction_at-it.ensures p)
+    does_at c.instruction_at-it.ensures
     (cast_does (between c.in-Cast.ensures refl)
     (rw c.integer_type-in-Cast.ensures at c.cast.ensures))
 
 pub returns-in-LdConst : goal.returns-in-LdConst
 unfolding instruction_of verify_instr Each encode
-returns-in-LdConst c = λ p. done c.in-LdConst.ensures (c.instruction_at-it.ensures p) (c.ld_const.ensures p)
+returns-in-LdConst c = done c.in-LdConst.ensures c.instruction_at-it.ensures c.ld_const.ensures
 
 pub returns-in-LdBool : goal.returns-in-LdBool
 unfolding instruction_of verify_instr Each encode
 returns-in-LdBool c =
-    λ p. let h = c.push_leaf-in-LdBool.ensures.steps Bool' refl in
-    done c.in-LdBool.ensures (c.instruction_at-it.ensures p) (h, h)
+    let h = c.push_leaf-in-LdBool.ensures.steps Bool' refl in
+    done c.in-LdBool.ensures c.instruction_at-it.ensures (h, h)
 
 pub returns-in-CopyLoc : goal.returns-in-CopyLoc
 unfolding instruction_of verify_instr Each encode
-returns-in-CopyLoc c = λ p. done c.in-CopyLoc.ensures (c.instruction_at-it.ensures p) (c.copy_loc.ensures p)
+returns-in-CopyLoc c = done c.in-CopyLoc.ensures c.instruction_at-it.ensures c.copy_loc.ensures
 
 pub returns-in-MoveLoc : goal.returns-in-MoveLoc
 unfolding instruction_of verify_instr Each encode
-returns-in-MoveLoc c = λ p. done c.in-MoveLoc.ensures (c.instruction_at-it.ensures p) (c.move_loc.ensures p)
+returns-in-MoveLoc c = done c.in-MoveLoc.ensures c.instruction_at-it.ensures c.move_loc.ensures
 
 pub returns-in-StLoc : goal.returns-in-StLoc
 unfolding instruction_of verify_instr Each encode
-returns-in-StLoc c = λ p. done c.in-StLoc.ensures (c.instruction_at-it.ensures p) (c.st_loc.ensures p)
+returns-in-StLoc c = done c.in-StLoc.ensures c.instruction_at-it.ensures c.st_loc.ensures
 
 pub returns-in-ReadRef : goal.returns-in-ReadRef
 unfolding instruction_of verify_instr Each encode
-returns-in-ReadRef c = λ p. done c.in-ReadRef.ensures (c.instruction_at-it.ensures p) (c.read_ref.ensures p)
+returns-in-ReadRef c = done c.in-ReadRef.ensures c.instruction_at-it.ensures c.read_ref.ensures
 
 pub returns-in-WriteRef : goal.returns-in-WriteRef
 unfolding instruction_of verify_instr Each encode
-returns-in-WriteRef c = λ p. done c.in-WriteRef.ensures (c.instruction_at-it.ensures p) (c.write_ref.ensures p)
+returns-in-WriteRef c = done c.in-WriteRef.ensures c.instruction_at-it.ensures c.write_ref.ensures
 
 pub returns-in-FreezeRef : goal.returns-in-FreezeRef
 unfolding instruction_of verify_instr Each encode
-returns-in-FreezeRef c = λ p. done c.in-FreezeRef.ensures (c.instruction_at-it.ensures p) c.freeze_ref.ensures
+returns-in-FreezeRef c = done c.in-FreezeRef.ensures c.instruction_at-it.ensures c.freeze_ref.ensures
 
 pub returns-in-Arithmetic : goal.returns-in-Arithmetic
 unfolding instruction_of verify_instr Each encode
 returns-in-Arithmetic c =
-    λ p. let h = c.arithmetic.ensures in
-    done c.in-Arithmetic.ensures (c.instruction_at-it.ensures p) (h, (h, (h, (h, (h, (h, (h, h)))))))
+    let h = c.arithmetic.ensures in
+    done c.in-Arithmetic.ensures c.instruction_at-it.ensures (h, (h, (h, (h, (h, (h, (h, h)))))))
 
 pub returns-in-Logical : goal.returns-in-Logical
 unfolding instruction_of verify_instr Each encode
 returns-in-Logical c =
-    λ p. let h = c.logical.ensures in
-    done c.in-Logical.ensures (c.instruction_at-it.ensures p) (h, h)
+    let h = c.logical.ensures in
+    done c.in-Logical.ensures c.instruction_at-it.ensures (h, h)
 
 pub returns-in-Not : goal.returns-in-Not
 unfolding instruction_of verify_instr Each encode
-returns-in-Not c = λ p. done c.in-Not.ensures (c.instruction_at-it.ensures p) c.negation.ensures
+returns-in-Not c = done c.in-Not.ensures c.instruction_at-it.ensures c.negation.ensures
 
 pub returns-in-Equality : goal.returns-in-Equality
 unfolding instruction_of verify_instr Each encode
 returns-in-Equality c =
-    λ p. let h = c.equality.ensures p in
-    done c.in-Equality.ensures (c.instruction_at-it.ensures p) (h, h)
+    let h = c.equality.ensures in
+    done c.in-Equality.ensures c.instruction_at-it.ensures (h, h)
 
 pub returns-in-Comparison : goal.returns-in-Comparison
 unfolding instruction_of verify_instr Each encode
 returns-in-Comparison c =
-    λ p. let h = c.comparison.ensures in
-    done c.in-Comparison.ensures (c.instruction_at-it.ensures p) (h, (h, (h, h)))
+    let h = c.comparison.ensures in
+    done c.in-Comparison.ensures c.instruction_at-it.ensures (h, (h, (h, h)))
 
 pub returns-in-Abort : goal.returns-in-Abort
 unfolding instruction_of verify_instr Each encode
-returns-in-Abort c = λ p. done c.in-Abort.ensures (c.instruction_at-it.ensures p) (c.pop_leaf-in-Abort.ensures.steps U64 is_u64)
+returns-in-Abort c = done c.in-Abort.ensures c.instruction_at-it.ensures (c.pop_leaf-in-Abort.ensures.steps U64 is_u64)
 
 pub returns-in-Nop : goal.returns-in-Nop
 unfolding instruction_of verify_instr Each encode
-returns-in-Nop c = λ p. done c.in-Nop.ensures (c.instruction_at-it.ensures p) done_here
+returns-in-Nop c = done c.in-Nop.ensures c.instruction_at-it.ensures done_here
 
 pub returns-in-Shift : goal.returns-in-Shift
 unfolding instruction_of verify_instr Each encode
 returns-in-Shift c =
-    λ p. let h = c.shift.ensures in
-    done c.in-Shift.ensures (c.instruction_at-it.ensures p) (h, h)
+    let h = c.shift.ensures in
+    done c.in-Shift.ensures c.instruction_at-it.ensures (h, h)

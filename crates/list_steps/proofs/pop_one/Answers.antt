@@ -1,26 +1,26 @@
 -- The stack is empty, or its top is compared, and the answer is that of the comparison.
 use Rattle.definitions.specs.Machine.{pop_one}
-use Rattle.substitution_comparison.specs.declared.Comparison.TheVariants.{Same, Differs, Past}
+use Rattle.type_stack.specs.Answers.{exit_is}
 use Rattle.type_stack.specs.Stepping.{pop_none}
 use Rattle.operand_steps.specs.Operands.{top_span}
 use Rattle.list_steps.specs.Pops.{pop_compared}
 use Rattle.list_steps.proofs.pop_one.Goals as goal
 
-pub returns-in_default : goal.returns-in_default
+pub returns-in_err-top : goal.returns-in_err-top
 unfolding pop_one
-returns-in_default c = λ p q. pop_none c.peek-top.ensures _ c.in_default.is
+returns-in_err-top c = λ p q. rw (exit_is c.from_residual.ensures.1) (pop_none c.in_err-top.ensures _)
 
-pub compare-requires-clause-spans : goal.compare-requires-clause-spans
-compare-requires-clause-spans c = top_span c.requires.stacked c.peek-top.ensures c.in-Entry.is
+pub compare-requires : goal.compare-requires
+compare-requires c = top_span c.requires c.in_ok-top.ensures
 
-pub returns-in-Past : goal.returns-in-Past
+pub returns : goal.returns
+returns c = λ p q. pop_compared c.in_ok-top.ensures (rw c.if-branch.false at c.in_ok-compare.ensures) _ p q
+
+pub returns-then-branch : goal.returns-then-branch
 unfolding pop_one
-returns-in-Past c = pop_compared c.peek-top.ensures c.in-Entry.is c.compare.ensures _ Past c.in-Past.is
+returns-then-branch c = λ p q. pop_compared c.in_ok-top.ensures (rw c.if-branch.true at c.in_ok-compare.ensures) _ p q
 
-pub returns-in-Differs : goal.returns-in-Differs
+pub returns-in_err-compare : goal.returns-in_err-compare
 unfolding pop_one
-returns-in-Differs c = pop_compared c.peek-top.ensures c.in-Entry.is c.compare.ensures _ Differs c.in-Differs.is
-
-pub returns-in-Same : goal.returns-in-Same
-unfolding pop_one
-returns-in-Same c = pop_compared c.peek-top.ensures c.in-Entry.is c.compare.ensures _ Same c.in-Same.is
+returns-in_err-compare c =
+    λ p q. rw (exit_is c.from_residual-in_err-compare.ensures.1) (pop_compared c.in_ok-top.ensures c.in_err-compare.ensures _ p q)

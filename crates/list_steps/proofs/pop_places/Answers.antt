@@ -1,29 +1,19 @@
-use native.Mathlib.Omega.{arith}
-use Rattle.list_steps.specs.Pops.{popping_start, popping_type, popping_next, popping_bad, popping_end}
+use Rattle.std.specs.Prelude.{refl}
+use Rattle.type_stack.specs.Answers.{exit_is}
+use Rattle.list_steps.specs.Pops.{popping_start, popping_next, popping_bad, popping_end}
 use Rattle.list_steps.proofs.pop_places.Goals as goal
 
-pub loop-left-init : goal.loop-left-init
-loop-left-init c = popping_start c.requires.stacked
-
-pub offset_bounds-places-left : goal.offset_bounds-places-left
-offset_bounds-places-left c = omega (arith, c.loop-left.invariant.most)
-
-pub bounds-places-left : goal.bounds-places-left
-bounds-places-left c = omega (arith, c.loop-left.invariant.most)
-
-pub pop_one-requires-clause-type_at : goal.pop_one-requires-clause-type_at
-pop_one-requires-clause-type_at c = popping_type c.loop-left.invariant c.loop-left-test.true c.widest.ensures.0 c.requires.arguments
-
-pub returns-in-Refused : goal.returns-in-Refused
-returns-in-Refused c =
-    popping_bad c.loop-left.invariant c.loop-left-test.true
-    c.widest.ensures.0 c.pop_one.ensures c.in-Refused.is
-
-pub loop-left-preserved : goal.loop-left-preserved
-loop-left-preserved c =
-    popping_next c.loop-left.invariant c.loop-left-test.true
-    c.widest.ensures.0 c.pop_one.ensures c.requires.arguments c.requires.arguments_2
-    c.in-Next.is
+pub loop-i-init : goal.loop-i-init
+loop-i-init c = popping_start c.requires
 
 pub returns : goal.returns
-returns c = popping_end c.loop-left.invariant c.loop-left-test.false
+returns c = popping_end c.loop-i.invariant c.loop-i-test.false
+
+pub returns-in_err-below : goal.returns-in_err-below
+returns-in_err-below c =
+    rw (exit_is c.from_residual.ensures.1)
+    (popping_bad c.loop-i.invariant c.loop-i-test.true (c.get.ensures.some _ c.unwrap-ty.ensures) c.in_err-below.ensures refl)
+
+pub loop-i-preserved : goal.loop-i-preserved
+loop-i-preserved c =
+    popping_next c.loop-i.invariant c.loop-i-test.true (c.get.ensures.some _ c.unwrap-ty.ensures) c.in_ok-below.ensures c.args.types.stand c.args.args.stand refl

@@ -1,42 +1,29 @@
 use native.Mathlib.Omega.{arith}
-use Rattle.list_steps.specs.Pushes.{weighing_start, weighing_type, weighing_past, weighing_small, weighing_full, weighing_next, weighing_done}
+use Rattle.type_stack.specs.Answers.{exit_is}
+use Rattle.list_steps.specs.Pushes.{weighing_start, weighing_type, weighing_refused, weighing_small, weighing_full, weighing_next, weighing_done}
 use Rattle.list_steps.proofs.weigh_each.Goals as goal
 
-pub loop-i-init : goal.loop-i-init
-loop-i-init c = weighing_start c.requires.weight_le_room.0
+pub loop-init : goal.loop-init
+loop-init c = weighing_start c.requires.weight_le_room.0
 
-pub instantiated_size-size-requires : goal.instantiated_size-size-requires
-instantiated_size-size-requires c =
-    record {
-      type_at = weighing_type c.loop-i.invariant c.loop-i-test.true c.requires.types_in c.requires.arguments;
-      arguments = c.requires.arguments;
-    }
+pub invariant_of-instantiated_size : goal.invariant_of-instantiated_size
+invariant_of-instantiated_size c = record { stands = weighing_type c.loop.invariant c.loop-test.true c.requires.types_in c.args.args.stand }
 
-pub returns-in_default : goal.returns-in_default
-returns-in_default c =
-    weighing_past c.loop-i.invariant c.loop-i-test.true c.instantiated_size-size.ensures
-    c.in_default.is
+pub returns-in_err-size : goal.returns-in_err-size
+returns-in_err-size c = rw (exit_is c.from_residual.ensures.1) (weighing_refused c.loop.invariant c.loop-test.true c.in_err-size.ensures)
 
 pub overflow_sub-room : goal.overflow_sub-room
-overflow_sub-room c = c.loop-i.invariant.low
+overflow_sub-room c = c.loop.invariant.low
 
-pub overflow_add-len : goal.overflow_add-len
-overflow_add-len c =
-    omega (
-      arith,
-      weighing_small c.loop-i.invariant c.loop-i-test.true c.instantiated_size-size.ensures
-          c.in-Bytes.is c.requires.types_in c.requires.arguments,
-    )
+pub overflow_add-size : goal.overflow_add-size
+overflow_add-size c = omega (arith, weighing_small c.loop.invariant c.loop-test.true c.in_ok-size.ensures c.requires.types_in c.args.args.stand)
 
 pub returns-then-room-after : goal.returns-then-room-after
-returns-then-room-after c =
-    weighing_full c.loop-i.invariant c.loop-i-test.true c.instantiated_size-size.ensures
-    c.in-Bytes.is c.if-room-after.true
+returns-then-room-after c = weighing_full c.loop.invariant c.loop-test.true c.in_ok-size.ensures c.if-room-after.true
 
-pub loop-i-preserved : goal.loop-i-preserved
-loop-i-preserved c =
-    weighing_next c.loop-i.invariant c.loop-i-test.true c.instantiated_size-size.ensures
-    c.in-Bytes.is c.requires.weight_le_room.1 c.if-room-after.false
+pub loop-preserved : goal.loop-preserved
+loop-preserved c =
+    weighing_next c.loop.invariant c.loop-test.true c.in_ok-size.ensures c.requires.weight_le_room.1 c.if-room-after.false
 
 pub returns : goal.returns
-returns c = weighing_done c.loop-i.invariant c.loop-i-test.false
+returns c = weighing_done c.loop.invariant c.loop-test.false

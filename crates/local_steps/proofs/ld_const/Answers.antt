@@ -1,20 +1,16 @@
 -- There is no such constant, or its type is pushed.
+use native.Mathlib.Omega.{arith}
 use Rattle.definitions.specs.TypeSafety as step
-use Rattle.step_views.specs.Checks.{type_then, type_bad, unit_room}
+use Rattle.signature_token.specs.Ends.{type_room}
+use Rattle.copied_pushes.specs.Standing.{push_declared}
+use Rattle.step_views.specs.Looked.{found_type, type_then}
 use Rattle.local_steps.proofs.ld_const.Goals as goal
 
-pub push_type-requires : goal.push_type-requires
-unfolding step.ld_const
-push_type-requires c =
-    record {
-      stacked = c.requires.stacked;
-      type_at = unit_room c.requires.unit_read c.constant_at.ensures c.in-Found.is;
-    }
+pub slice_bounds-push_part-end : goal.slice_bounds-push_part-end
+slice_bounds-push_part-end c =
+    let p = found_type c.in_ok-at.ensures in
+    omega (arith, c.end.ensures p, type_room p)
 
-pub returns-in-Refused : goal.returns-in-Refused
+pub returns : goal.returns
 unfolding step.ld_const
-returns-in-Refused c = λ p. type_bad (c.constant_at.ensures p) _ c.in-Refused.is
-
-pub returns-in-Found : goal.returns-in-Found
-unfolding step.ld_const
-returns-in-Found c = λ p. type_then (c.constant_at.ensures p) _ c.in-Found.is c.push_type.ensures.steps
+returns c = type_then _ c.in_ok-at.ensures (λ p. push_declared p c.end.ensures c.push_part.ensures)

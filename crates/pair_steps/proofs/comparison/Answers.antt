@@ -1,30 +1,19 @@
 -- Two integers of one type, and a bool pushed in their place.
 use Rattle.definitions.specs.TypeSafety as step
 use Rattle.signature_token.specs.TokenLaws.{is_bool}
+use Rattle.type_stack.specs.Answers.{exit_is}
 use Rattle.type_stack.specs.Stepping.{two_none, two_then, check_then, check_bad}
-use Rattle.operand_steps.specs.Operands.{operands, operand, span, no_left, no_right, yes_both, push_leaf}
+use Rattle.operand_steps.specs.Operands.{operand, span, no_left, no_right, yes_both, push_leaf}
 use Rattle.pair_steps.proofs.comparison.Goals as goal
 
-pub returns-in_default : goal.returns-in_default
+pub returns-in_err-top : goal.returns-in_err-top
 unfolding step.comparison
-returns-in_default c = two_none c.peek_two-top.ensures _ c.in_default.is
-
-pub is_integer-requires : goal.is_integer-requires
-unfolding step.comparison
-is_integer-requires c = search operands
-
-pub same_type-requires : goal.same_type-requires
-unfolding step.comparison
-same_type-requires c = search operands
-
-pub push_leaf-requires : goal.push_leaf-requires
-unfolding step.comparison
-push_leaf-requires c = search operands
+returns-in_err-top c = rw (exit_is c.from_residual.ensures.1) (two_none c.in_err-top.ensures _)
 
 pub returns-then-same_type : goal.returns-then-same_type
 unfolding step.comparison
 returns-then-same_type c =
-    two_then c.peek_two-top.ensures c.in-Entries.is
+    two_then c.in_ok-top.ensures
     (λ t u p q. check_then _ _
     (yes_both (c.is_integer.ensures (operand p))
     c.if-is_integer.true
@@ -34,7 +23,7 @@ returns-then-same_type c =
 pub returns-else-same_type : goal.returns-else-same_type
 unfolding step.comparison
 returns-else-same_type c =
-    two_then c.peek_two-top.ensures c.in-Entries.is
+    two_then c.in_ok-top.ensures
     (λ t u p q. check_bad _
     (no_right (c.is_integer.ensures (operand p)) c.if-is_integer.true
     (c.same_type.ensures (span p) (operand q)) c.if-same_type.false))
@@ -42,5 +31,5 @@ returns-else-same_type c =
 pub returns-else-is_integer : goal.returns-else-is_integer
 unfolding step.comparison
 returns-else-is_integer c =
-    two_then c.peek_two-top.ensures c.in-Entries.is
+    two_then c.in_ok-top.ensures
     (λ t u p q. check_bad _ (no_left _ (c.is_integer.ensures (operand p)) c.if-is_integer.false))

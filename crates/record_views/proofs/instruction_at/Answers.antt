@@ -1,6 +1,5 @@
 -- `instruction_at`: where there is room for the longest operands, every kind is read.
-use mathlib.Core.Path.{refl, ap, ◌∙◌}
-use native.Mathlib.Omega.{arith}
+use Rattle.std.proofs.Common.{refl, ap, ◌∙◌, arith}
 use Rattle.record_reader.specs.Apart.{number_of}
 use Rattle.record_views.specs.Reread.{reread, is_here}
 use Rattle.record_views.proofs.instruction_at.Goals as goal

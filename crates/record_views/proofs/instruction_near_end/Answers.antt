@@ -1,6 +1,6 @@
 -- `instruction_near_end`: operands that don't fit before the end are not the instruction's, which was read.
-use mathlib.Core.Path.{refl}
-use native.Mathlib.Omega.{arith}
+use Rattle.std.proofs.Common.{refl, arith, rules}
+use Rattle.std.proofs.lemmas.Grind.{common_steps}
 use Rattle.record_views.specs.Reread.{reread, is_here}
 use Rattle.record_views.proofs.instruction_near_end.Goals as goal
 
@@ -12,13 +12,13 @@ overflow_sub-left c = omega (arith, (reread c.requires.0).within)
 
 pub returns-then-left-gt2 : goal.returns-then-left-gt2
 returns-then-left-gt2 c =
-    λ p. is_here p refl (λ k. refl) (λ k. c.u16_at.ensures)
+    λ p. is_here p refl (λ k. grind (arith, common_steps)) (λ k. c.u16_at.ensures)
     (λ k. absurd (omega (arith, (reread p).room, c.requires.1)))
 
-pub returns-then-left-gt1 : goal.returns-then-left-gt1
-returns-then-left-gt1 c = λ p. is_here p refl (λ k. refl) (λ k. absurd (omega (arith, (reread p).room))) (λ k. absurd (omega (arith, (reread p).room)))
-
-pub returns : goal.returns
-returns c =
-    λ p. is_here p refl (λ k. absurd (omega (arith, (reread p).room))) (λ k. absurd (omega (arith, (reread p).room)))
+pub returns-else-left-gt2 : goal.returns-else-left-gt2
+returns-else-left-gt2 c =
+    λ p. is_here p refl (λ k. grind (arith, common_steps)) (λ k. absurd (omega (arith, (reread p).room)))
     (λ k. absurd (omega (arith, (reread p).room)))
+
+pub overflow_add-at : goal.overflow_add-at
+overflow_add-at c = let h = (reread c.requires.0).within in search rules

@@ -1,17 +1,18 @@
--- The look-up is refused, or its struct is native, or its fields are packed.
+-- The struct is native, or its fields are packed.
+use Rattle.std.specs.Prelude.{refl}
 use Rattle.definitions.specs.TypeSafety as step
-use Rattle.step_views.specs.Structs.{struct_then, struct_bad}
-use Rattle.struct_steps.specs.Packing.{fields_bad, pack_then}
+use Rattle.type_stack.specs.Stepping.{look_then}
+use Rattle.step_views.specs.Looked.{struct_types}
+use Rattle.struct_steps.specs.Packing.{found_fields, fields_bad, pack_then}
 use Rattle.struct_steps.proofs.pack.Goals as goal
 
-pub returns-in-Refused : goal.returns-in-Refused
-unfolding step.pack
-returns-in-Refused c = λ p. struct_bad p.is _ c.in-Refused.is
+pub pack_fields-requires-clause-types_in : goal.pack_fields-requires-clause-types_in
+pack_fields-requires-clause-types_in c = (found_fields c.requires.struct_in c.in-Declared.is, struct_types c.requires.struct_in)
 
 pub returns-in-Native : goal.returns-in-Native
 unfolding step.pack
-returns-in-Native c = λ p. struct_then p.is _ c.in-Found.is (λ e w. fields_bad w _ c.in-Native.is)
+returns-in-Native c = λ q. look_then _ refl (fields_bad q _ c.in-Native.is)
 
 pub returns-in-Declared : goal.returns-in-Declared
 unfolding step.pack
-returns-in-Declared c = λ p. struct_then p.is _ c.in-Found.is (λ e w. pack_then w c.in-Declared.is c.pack_fields.ensures)
+returns-in-Declared c = λ q. look_then _ refl (pack_then q c.in-Declared.is c.pack_fields.ensures)

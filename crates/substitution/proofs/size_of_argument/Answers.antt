@@ -4,4 +4,4 @@ use Rattle.signature_token.specs.Ends.{type_room}
 use Rattle.substitution.proofs.size_of_argument.Goals as goal
 
 pub grown-requires : goal.grown-requires
-grown-requires c = omega (arith, c.end_of_type.ensures c.requires.type_at, type_room c.requires.type_at, c.requires.len_bound)
+grown-requires c = let p = c.args.argument.stands in omega (arith, c.end.ensures p, type_room p)

@@ -1,32 +1,27 @@
 use native.Mathlib.Omega.{arith}
+use Rattle.std.specs.Prelude.{refl}
 use Rattle.signature_token.specs.Token.{at_some}
 use Rattle.signature_token.specs.Lists.{type_left}
 use Rattle.substitution_comparison.specs.Matching.{all_left, agreed_start, agreed_on, agreed_no, agreed_done}
 use Rattle.substitution_comparison.proofs.same_instantiated.Goals as goal
 
 pub loop-left-init : goal.loop-left-init
-loop-left-init c = agreed_start c.requires.type_at
+loop-left-init c = agreed_start c.args.found.stands
 
-pub match_first-requires-clause-left_nonzero : goal.match_first-requires-clause-left_nonzero
-match_first-requires-clause-left_nonzero c =
-    let q = c.requires in
-    let g = c.loop-left.invariant in
-    (c.loop-left-test.true, (g.is q.type_at_2 q.arguments).next)
+pub invariant_of-types : goal.invariant_of-types
+invariant_of-types c = record { stand = (c.loop-left.invariant.is c.args.ty.stands c.args.args.stand).next }
 
-pub returns-in-No : goal.returns-in-No
-returns-in-No c = agreed_no c.loop-left.invariant c.match_first.ensures c.in-No.is
+pub returns-in_default : goal.returns-in_default
+returns-in_default c = agreed_no c.loop-left.invariant (rw c.in_default.is at c.match_first.ensures)
 
 pub loop-left-smaller : goal.loop-left-smaller
 loop-left-smaller c =
-    let q = c.requires in
-    let next = (c.loop-left.invariant.is q.type_at_2 q.arguments).next in
-    let onward = (c.match_first.ensures.yes _ _ _ c.in-Upto.is next q.arguments).onward in
+    let next = (c.loop-left.invariant.is c.args.ty.stands c.args.args.stand).next in
+    let onward = (c.in-Some.ensures.yes _ refl next c.args.args.stand).onward in
     omega (arith, onward, at_some (type_left c.loop-left-test.true (all_left next)))
 
 pub loop-left-preserved : goal.loop-left-preserved
-loop-left-preserved c =
-    let q = c.requires in
-    agreed_on c.loop-left.invariant c.match_first.ensures c.in-Upto.is q.type_at_2 q.arguments
+loop-left-preserved c = agreed_on c.loop-left.invariant c.in-Some.ensures c.args.ty.stands c.args.args.stand
 
 pub returns : goal.returns
 returns c = agreed_done c.loop-left.invariant (omega arith)

@@ -9,10 +9,10 @@ pub returns-in_default : goal.returns-in_default
 returns-in_default c = wrote_at c.write_type.ensures
 
 pub bounds-out-0 : goal.bounds-out-0
-bounds-out-0 c = omega (arith, (leaf_fits c.token_at-token.ensures c.requires c.in-Leaf.is).free)
+bounds-out-0 c = omega (arith, (leaf_fits c.token.ensures.is c.requires c.in-Leaf.is).free)
 
 pub overflow_add-result : goal.overflow_add-result
-overflow_add-result c = omega (arith, at_some c.requires.filling.from)
+overflow_add-result c = omega (arith, at_some c.args.ty.stands)
 
 pub returns : goal.returns
-returns c = leaf_at_front c.token_at-token.ensures c.requires.filling.from c.in-Leaf.is
+returns c = leaf_at_front c.token.ensures.is c.args.ty.stands c.in-Leaf.is

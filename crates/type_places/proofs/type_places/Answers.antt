@@ -8,21 +8,21 @@ pub loop-i-init : goal.loop-i-init
 loop-i-init c = placing_start
 
 pub overflow_cast-out : goal.overflow_cast-out
-overflow_cast-out c = omega (arith, at_some (next_type c.loop-i-test.true (c.loop-i.invariant.each c.requires.types_at).rest), c.requires.n_in_bounds.1)
+overflow_cast-out c = omega (arith, at_some (next_type c.loop-i-test.true (c.loop-i.invariant.each c.args.types.stand).rest), c.requires.1)
 
 pub offset_bounds-out-i : goal.offset_bounds-out-i
-offset_bounds-out-i c = omega (arith, c.requires.n_in_bounds.0, c.loop-i-test.true)
+offset_bounds-out-i c = omega (arith, c.requires.0, c.loop-i-test.true)
 
 pub bounds-out-i : goal.bounds-out-i
-bounds-out-i c = omega (arith, c.requires.n_in_bounds.0, c.loop-i-test.true, c.loop-i.invariant.long)
+bounds-out-i c = omega (arith, c.requires.0, c.loop-i-test.true, c.loop-i.invariant.long)
 
-pub end_of_type-p-requires : goal.end_of_type-p-requires
-end_of_type-p-requires c = next_type c.loop-i-test.true (c.loop-i.invariant.each c.requires.types_at).rest
+pub invariant_of-end : goal.invariant_of-end
+invariant_of-end c = record { stands = next_type c.loop-i-test.true (c.loop-i.invariant.each c.args.types.stand).rest }
 
 pub loop-i-preserved : goal.loop-i-preserved
 loop-i-preserved c =
-    placing_next c.loop-i-test.true (omega (arith, c.requires.n_in_bounds.0, c.loop-i.invariant.long, c.loop-i-test.true)) c.loop-i.invariant
-    c.end_of_type-p.ensures
+    placing_next c.loop-i-test.true (omega (arith, c.requires.0, c.loop-i.invariant.long, c.loop-i-test.true)) c.loop-i.invariant
+    c.end-at.ensures
 
 pub returns : goal.returns
 returns c = placing_done (omega arith) c.loop-i.invariant

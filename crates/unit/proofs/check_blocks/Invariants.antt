@@ -1,10 +1,6 @@
--- `check_blocks`: each block before the i-th lies within the code, and the first that does not is the one that is named.
-use Prim.Native.Nat.{◌-◌}
+-- `check_blocks`: each block before the one at this place lies within the code, and the first that does not is the one that is named.
 use Rattle.unit.proofs.Blocks.{Tested}
 use Rattle.unit.proofs.check_blocks.Given as goal
 
-abbrev pub invariant-loop-i : goal.invariant-loop-i
-invariant-loop-i l = Tested l.s l.at l.index l.base l.count l.code l.i
-
-abbrev pub decreases-loop-i : goal.decreases-loop-i
-decreases-loop-i l = l.count - l.i
+abbrev pub invariant-loop-place : goal.invariant-loop-place
+invariant-loop-place l = Tested l.s l.places l.code l.place-index

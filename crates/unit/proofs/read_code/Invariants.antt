@@ -1,5 +1,4 @@
 -- `read_code`: at each turn the places of the instructions so far stand in the index.
-use Prim.Native.Nat.{◌-◌}
 use Rattle.definitions.specs.CompiledUnit as defs
 use Rattle.definitions.specs.Commands.{commands_of}
 use Rattle.definitions.specs.Reader.{instruction}
@@ -8,6 +7,3 @@ use Rattle.unit.proofs.read_code.Given as goal
 
 abbrev pub invariant-loop-n : goal.invariant-loop-n
 invariant-loop-n l = (h : defs.Head) → InCode (instruction (commands_of h)) l.s l.from l.base l.count l.initial.index l.index l.at l.n
-
-abbrev pub decreases-loop-n : goal.decreases-loop-n
-decreases-loop-n l = l.count - l.n

@@ -1,18 +1,55 @@
--- The look-up, and then the borrow of the declared element.
+-- A u64 and a reference to a vector of the named element are popped, and a reference to the element pushed.
+use mathlib.Core.Path.{sym, ◌∙◌}
+use Rattle.definitions.specs.SignatureToken.{U64}
 use Rattle.definitions.specs.TypeSafety as step
-use Rattle.step_views.specs.Checks.{type_then, type_bad, unit_room}
-use Rattle.vector_borrow_steps.specs.Borrows.{borrow_declared}
+use Rattle.signature_token.specs.TokenLaws.{is_u64}
+use Rattle.type_stack.specs.Answers.{exit_is}
+use Rattle.type_stack.specs.Stepping.{two_none, two_then, check_then, check_bad}
+use Rattle.type_stack.specs.Tops.{topped_two}
+use Rattle.operand_steps.specs.Operands.{operand, span}
+use Rattle.copied_pushes.specs.Standing.{push_reference}
+use Rattle.step_views.specs.Looked.{found_type, type_then, looked_bad, unit_room}
+use Rattle.vector_elements.specs.Elements.{element_then, element_bad}
+use Rattle.vector_elements.specs.Found.{found_within, found_short}
 use Rattle.vector_borrow_steps.proofs.borrow_vector_element.Goals as goal
 
-pub borrow_declared-requires : goal.borrow_declared-requires
-borrow_declared-requires c =
-    let k = unit_room c.requires.unit_read c.element_type_at.ensures c.in-Found.is in
-    record { stacked = c.requires.stacked; type_at = k.0; s_len_bound = k.1 }
+pub returns-in_err-at : goal.returns-in_err-at
+unfolding step.borrow_vector_element
+returns-in_err-at c = rw (exit_is c.from_residual.ensures.1) (looked_bad _ c.in_err-at.ensures)
 
-pub returns-in-Refused : goal.returns-in-Refused
-unfolding step.borrow_vector_element borrow_declared
-returns-in-Refused c = λ p. type_bad (c.element_type_at.ensures p) _ c.in-Refused.is
+pub returns-in_err-top : goal.returns-in_err-top
+unfolding step.borrow_vector_element
+returns-in_err-top c = rw (exit_is c.from_residual-in_err-top.ensures.1) (type_then _ c.in_ok-at.ensures (λ q. two_none c.in_err-top.ensures _))
 
-pub returns-in-Found : goal.returns-in-Found
-unfolding step.borrow_vector_element borrow_declared
-returns-in-Found c = λ p. type_then (c.element_type_at.ensures p) _ c.in-Found.is c.borrow_declared.ensures
+pub element_is-requires : goal.element_is-requires
+element_is-requires c = span (topped_two c.requires c.in_ok-top.ensures).1.here
+
+pub slice_bounds-push_wrapped-end : goal.slice_bounds-push_wrapped-end
+slice_bounds-push_wrapped-end c = (found_within (found_type c.in_ok-at.ensures) c.end-end.ensures).1
+
+pub push_wrapped-requires-clause-short : goal.push_wrapped-requires-clause-short
+push_wrapped-requires-clause-short c = found_short (found_type c.in_ok-at.ensures) c.end-end.ensures (unit_room c.args.unit.now)
+
+pub returns-then-element_is : goal.returns-then-element_is
+unfolding step.borrow_vector_element
+returns-then-element_is c =
+    type_then _ c.in_ok-at.ensures
+    (λ q. two_then c.in_ok-top.ensures
+    (λ t u h g. check_then _ _ (sym (c.is_leaf.ensures (operand h) U64 is_u64) ∙ c.if-is_leaf.true)
+    (element_then c.element_is.ensures g q _ c.if-element_is.true
+    (push_reference q c.end-end.ensures c.reference_command-command.ensures c.push_wrapped.ensures))))
+
+pub returns-else-element_is : goal.returns-else-element_is
+unfolding step.borrow_vector_element
+returns-else-element_is c =
+    type_then _ c.in_ok-at.ensures
+    (λ q. two_then c.in_ok-top.ensures
+    (λ t u h g. check_then _ _ (sym (c.is_leaf.ensures (operand h) U64 is_u64) ∙ c.if-is_leaf.true)
+    (element_bad c.element_is.ensures g q _ c.if-element_is.false)))
+
+pub returns-else-is_leaf : goal.returns-else-is_leaf
+unfolding step.borrow_vector_element
+returns-else-is_leaf c =
+    type_then _ c.in_ok-at.ensures
+    (λ q. two_then c.in_ok-top.ensures
+    (λ t u h g. check_bad _ (sym (c.is_leaf.ensures (operand h) U64 is_u64) ∙ c.if-is_leaf.false)))

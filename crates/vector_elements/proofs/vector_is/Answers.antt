@@ -1,19 +1,9 @@
--- The element is compared where there is a vector; anything else is not one.
-use Rattle.vector_elements.specs.Elements.{vector_span, vector_room, vector_same, vector_not}
+-- A vector's command is one byte of the operand, and its element is what is left.
+use Rattle.vector_elements.specs.Elements.{vector_room, vector_same}
 use Rattle.vector_elements.proofs.vector_is.Goals as goal
 
-pub overflow_sub-len : goal.overflow_sub-len
-overflow_sub-len c = vector_room c.vector_element.ensures c.in-Found.is c.requires.spans
+pub overflow_sub-operand : goal.overflow_sub-operand
+overflow_sub-operand c = vector_room c.in-Some.ensures c.requires
 
-pub same_type-requires : goal.same_type-requires
-same_type-requires c =
-    record {
-      spans = vector_span c.vector_element.ensures c.in-Found.is c.requires.spans;
-      type_at = c.requires.type_at;
-    }
-
-pub returns-in-Found : goal.returns-in-Found
-returns-in-Found c = vector_same c.vector_element.ensures c.in-Found.is c.same_type.ensures
-
-pub returns-in-NoVector : goal.returns-in-NoVector
-returns-in-NoVector c = vector_not c.vector_element.ensures c.in-NoVector.is
+pub returns-in-Some : goal.returns-in-Some
+returns-in-Some c = vector_same c.in-Some.ensures c.same_type.ensures

@@ -2,8 +2,5 @@
 use Rattle.vector_pack_steps.specs.Many.{Popping}
 use Rattle.vector_pack_steps.proofs.pop_many.Given as goal
 
-abbrev pub invariant-loop-left : goal.invariant-loop-left
-invariant-loop-left l = Popping l.area l.weight l.num l.below l.left
-
-abbrev pub decreases-loop-left : goal.decreases-loop-left
-decreases-loop-left l = l.left
+abbrev pub invariant-loop-i : goal.invariant-loop-i
+invariant-loop-i l = Popping l.area l.weight l.num l.below l._i

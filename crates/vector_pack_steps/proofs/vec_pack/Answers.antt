@@ -1,40 +1,32 @@
 -- The look-up, the pops, and then the push of a vector.
 use mathlib.Core.Path.{refl}
-use native.Mathlib.Omega.{arith}
 use Rattle.definitions.specs.TypeSafety as step
+use Rattle.type_stack.specs.Answers.{exit_is}
 use Rattle.type_stack.specs.Stepping.{and_then, and_bad, and_stacked}
-use Rattle.unit_tables.specs.Tables.{unit_short}
-use Rattle.step_views.specs.Checks.{found_type, type_then, type_bad}
-use Rattle.copied_pushes.specs.Standing.{type_part}
-use Rattle.vector_elements.specs.Found.{push_vector}
+use Rattle.step_views.specs.Looked.{found_type, type_then, looked_bad, unit_room}
+use Rattle.vector_elements.specs.Found.{found_within, found_short, push_vector}
 use Rattle.vector_pack_steps.proofs.vec_pack.Goals as goal
 
-pub end_of_type-end-requires : goal.end_of_type-end-requires
+pub returns-in_err-at : goal.returns-in_err-at
 unfolding step.vec_pack
-end_of_type-end-requires c = found_type (c.element_type_at.ensures c.requires.unit_read) c.in-Found.is
+returns-in_err-at c = rw (exit_is c.from_residual.ensures.1) (looked_bad _ c.in_err-at.ensures)
 
-pub push_wrapped-requires : goal.push_wrapped-requires
+pub returns-in_err-below : goal.returns-in_err-below
 unfolding step.vec_pack
-push_wrapped-requires c =
-    record {
-      stacked = and_stacked c.pop_many.ensures c.requires.stacked c.in-Next.is refl;
-      part = type_part (found_type (c.element_type_at.ensures c.requires.unit_read) c.in-Found.is)
-          c.end_of_type-end.ensures (omega (arith, unit_short c.requires.unit_read));
-    }
+returns-in_err-below c =
+    rw (exit_is c.from_residual-in_err-below.ensures.1) (type_then _ c.in_ok-at.ensures (λ q. and_bad c.in_err-below.ensures _ refl))
 
-pub returns-in-Refused : goal.returns-in-Refused
-unfolding step.vec_pack
-returns-in-Refused c = λ p. type_bad (c.element_type_at.ensures p) _ c.in-Refused.is
+pub slice_bounds-push_wrapped-end : goal.slice_bounds-push_wrapped-end
+slice_bounds-push_wrapped-end c = (found_within (found_type c.in_ok-at.ensures) c.end.ensures).1
 
-pub returns-in-Refused-pop_many : goal.returns-in-Refused-pop_many
-unfolding step.vec_pack
-returns-in-Refused-pop_many c =
-    λ p. type_then (c.element_type_at.ensures p) _ c.in-Found.is
-    (λ q. and_bad c.pop_many.ensures _ c.in-Refused-pop_many.is)
+pub push_wrapped-requires-clause-stacked : goal.push_wrapped-requires-clause-stacked
+push_wrapped-requires-clause-stacked c = and_stacked c.in_ok-below.ensures c.requires refl refl
 
-pub returns-in-Next : goal.returns-in-Next
+pub push_wrapped-requires-clause-short : goal.push_wrapped-requires-clause-short
+push_wrapped-requires-clause-short c = found_short (found_type c.in_ok-at.ensures) c.end.ensures (unit_room c.args.unit.now)
+
+pub returns : goal.returns
 unfolding step.vec_pack
-returns-in-Next c =
-    λ p. type_then (c.element_type_at.ensures p) _ c.in-Found.is
-    (λ q. and_then c.pop_many.ensures _ c.in-Next.is
-    (push_vector q c.end_of_type-end.ensures c.push_wrapped.ensures))
+returns c =
+    type_then _ c.in_ok-at.ensures
+    (λ q. and_then c.in_ok-below.ensures _ refl (push_vector q c.end.ensures c.push_wrapped.ensures))

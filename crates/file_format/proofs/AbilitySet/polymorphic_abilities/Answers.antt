@@ -1,18 +1,15 @@
-use native.Mathlib.Omega.{arith}
-use Rattle.file_format.proofs.Sets.{met_none, met_more, met_all, unequal}
+-- The pairs are met left to right, as the definition has it.
+use Rattle.std.proofs.Common.{arith, rules, tests, ◌∙◌, ap, Ok}
+use Rattle.std.proofs.lemmas.Iterator.{YieldsList-from_slice, YieldsList-from_zip}
+use Rattle.std.proofs.lemmas.Iterator.Consumers.{fold_from_yields_List}
+use Rattle.file_format.proofs.Sets.{met, met_all, equal}
 use Rattle.file_format.proofs.AbilitySet.polymorphic_abilities.Goals as goal
 
-pub returns-then-phantoms-sets : goal.returns-then-phantoms-sets
-returns-then-phantoms-sets c = rw (unequal _ _ _ c.if-phantoms-sets.true)
-
-pub loop-i-init : goal.loop-i-init
-loop-i-init c = met_none _ _ _ c.if-phantoms-sets.false
-
-pub bounds-phantoms-i : goal.bounds-phantoms-i
-bounds-phantoms-i c = omega (arith, c.loop-i.invariant.counted)
-
-pub loop-i-preserved : goal.loop-i-preserved
-loop-i-preserved c = rw c.meet_argument-acc.ensures (met_more c.loop-i.invariant (omega arith))
-
 pub returns : goal.returns
-returns c = rw (met_all c.loop-i.invariant (omega arith))
+returns c =
+    let phantoms = c.args.phantoms.now in
+    let sets = c.args.sets.now in
+    let e =
+    fold_from_yields_List _ met _ _ c.fold.ensures.ran (YieldsList-from_zip (YieldsList-from_slice phantoms cc) (YieldsList-from_slice sets cc))
+    (λ a x b q k. search (rules, tests)) in
+    rw (equal c.args.declared.0 phantoms sets (omega arith)) (ap Ok (e ∙ met_all c.args.declared phantoms sets))
