@@ -16,7 +16,7 @@ use Rattle.theorems.specs.Bytes.{list_of_arguments}
 use Rattle.file_format.specs.Answers.{PartialVMResult}
 use Rattle.file_format.specs.declared.AbilitySet.{AbilitySet}
 use Rattle.record_reader.specs.Apart.{parts, made, byte_read}
-use Rattle.record_views.specs.declared.TypeList.{TypeList}
+use Rattle.signature_token.specs.declared.SignatureView.{SignatureView}
 use Rattle.record_views.specs.Records.{TypesIn}
 use Rattle.record_views.specs.Reread.{types_at}
 use Rattle.binary_views.specs.Handles.{HandlesAt, byte_up_to_read}
@@ -157,8 +157,8 @@ module _ {s : List ℕ} {u : defs.CompiledUnit} {c : AbilityTables} (k : Context
   abilities_here p w = record { is = rw k.constraints at (w.answers p context_handles) }
 
   pub struct_abilities_here :
-      {h : ℕ} {l : TypeList} {r : PartialVMResult AbilitySet} (q : TypesIn s l) →
-      MaterializedAbilities h s l.at l.count c.unit.now c.handles.now c.constraints.now r →
+      {h : ℕ} {l : SignatureView} {r : PartialVMResult AbilitySet} (q : TypesIn l) →
+      MaterializedAbilities h l.types.bytes.now l.types.at l.types.count c.unit.now c.handles.now c.constraints.now r →
       AbilitiesIs u (materialize_type h q.types) r
   unfolding defs_abilities.abilities
   struct_abilities_here q w = record { is = rw (k.constraints, list_of_arguments q.types) at (w.answers (types_at q) context_handles) }

@@ -12,12 +12,12 @@ ghost use Rattle.ability_views.specs.Answers.{HandleIs, ContextIs, AbilitiesIs};
 
 use binary_views::AbilityTables;
 use file_format::{AbilitySet, StructHandleIndex};
-use record_views::TypeList;
-use signature_token::TypeRef;
+use signature_token::{SignatureView, TypeRef};
 use status::PartialVMResult;
 use unit_tables::UnitView;
 
-// A struct's declared abilities, and its type parameters: `count` bytes at `parameters`, 1 where one is phantom.
+// A struct's declared abilities, and its type parameters: `count` bytes at `parameters`, 1 where one is phantom. The place is what is promised, not
+// the bytes alone.
 #[derive(Clone, Copy)]
 pub struct StructHandle {
     pub abilities: AbilitySet,
@@ -63,19 +63,13 @@ pub fn abilities(ty: TypeRef, unit: &UnitView<'_>) -> PartialVMResult<AbilitySet
     ability_tables(unit).abilities(ty)
 }
 
-// The abilities of the struct with the type arguments that stand in the unit.
+// The abilities of the struct with these type arguments.
 pub fn struct_abilities(
     unit: &UnitView<'_>,
     h: StructHandleIndex,
-    type_args: TypeList,
+    type_args: SignatureView,
 ) -> PartialVMResult<AbilitySet>
-    requires { TypesIn unit.now.bytes.now type_args }
-    ensures { (q : TypesIn unit.now.bytes.now type_args) → AbilitiesIs (compiled unit.now) (materialize_type h.0 q.types) result }
+    ensures { (q : TypesIn type_args.entry) → AbilitiesIs (compiled unit.now) (materialize_type h.0 q.types) result }
 {
-    let arguments = signature_token::TypeList {
-        bytes: unit.bytes,
-        at: type_args.at,
-        count: type_args.count,
-    };
-    ability_tables(unit).materialized_abilities(h, arguments)
+    ability_tables(unit).materialized_abilities(h, type_args)
 }

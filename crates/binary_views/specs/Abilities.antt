@@ -199,10 +199,6 @@ module _ {ty : List ℕ} {place : ℕ} {unit handles constraints : List ℕ} {to
 -- ── an instantiated struct ──
 
 module _ {ty : List ℕ} {place : ℕ} {token : Token} (w : TokenAt ty place token) (p : TypeAt ty place) {k : StructHandleIndex} {n x : ℕ} (e : token ≡ StructInstantiation k n x) (l : n < 256) where
-  -- the arguments' sets have room in an array of 255
-  pub arguments_fit : n ≤ 255
-  arguments_fit = omega arith
-
   -- a struct's walk is below the type's, and above its arguments'
   pub instantiation_falls : struct_measure ty x n < type_measure ty place
   instantiation_falls = let i = instantiation_at w p e in omega (arith, i.place, i.long, type_room p)

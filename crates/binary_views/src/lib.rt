@@ -8,10 +8,10 @@ ghost use Rattle.file_format.specs.Answers.{answer};
 ghost use Rattle.file_format.specs.AbilitySet.{set_of, abilities_answer};
 ghost use Rattle.binary_views.specs.Tables.{PlaceAt};
 ghost use Rattle.binary_views.specs.Handles.{HandlesAt};
-ghost use Rattle.binary_views.specs.Abilities.{leaf_set, of_vector, StructAbilitiesAt, InstantiatedAt, AbilitiesAt, MaterializedAbilities, AbilitiesToAt, InstantiationToAt, GatheredAt};
+ghost use Rattle.binary_views.specs.Abilities.{leaf_set, of_vector, ending_at, StructAbilitiesAt, InstantiatedAt, AbilitiesAt, MaterializedAbilities, AbilitiesToAt, InstantiationToAt, GatheredAt};
 
 use file_format::{AbilitySet, StructHandleIndex};
-use signature_token::{Token, TypeList, TypeRef, Wrapper};
+use signature_token::{SignatureView, Token, TypeList, TypeRef, Wrapper};
 use status::{PartialVMResult, StatusCode};
 
 // What abilities are looked up in: a unit, the places of its struct handles, and the abilities of the function's type parameters.
@@ -47,6 +47,13 @@ fn vector_abilities(element: AbilitySet) -> PartialVMResult<AbilitySet>
     ensures { result ≡ of_vector element }
 {
     AbilitySet::polymorphic_abilities(AbilitySet::VECTOR, &[0], &[element.0])
+}
+
+// An answer with the type's end.
+fn ending_at(set: PartialVMResult<AbilitySet>, end: usize) -> PartialVMResult<(AbilitySet, usize)>
+    ensures { result ≡ ending_at set end }
+{
+    Ok((set?, end))
 }
 
 impl AbilityTables<'_> {
@@ -109,18 +116,19 @@ impl AbilityTables<'_> {
                 match wrapper {
                     Wrapper::Vector => {
                         let (element, end) = self.abilities_to(inner)?;
-                        Ok((vector_abilities(element)?, end))
+                        ending_at(vector_abilities(element), end)
                     }
                     Wrapper::Reference | Wrapper::MutableReference => {
                         Ok((AbilitySet::REFERENCES, inner.end()))
                     }
                 }
             }
-            Token::Struct(h) => Ok((self.struct_abilities(h)?, at + 3)),
+            Token::Struct(h) => ending_at(self.struct_abilities(h), at + 3),
             Token::StructInstantiation(h, count, at) => {
-                self.instantiation_abilities(h, TypeList { bytes, at, count })
+                let types = TypeList { bytes, at, count };
+                self.instantiation_abilities(h, SignatureView { types })
             }
-            Token::TypeParameter(i) => Ok((self.type_parameter_abilities(i)?, at + 3)),
+            Token::TypeParameter(i) => ending_at(self.type_parameter_abilities(i), at + 3),
         }
     }
 
@@ -130,16 +138,15 @@ impl AbilityTables<'_> {
     fn instantiation_abilities(
         &self,
         h: StructHandleIndex,
-        arguments: TypeList,
+        arguments: SignatureView,
     ) -> PartialVMResult<(AbilitySet, usize)>
-        requires { arguments.count ≤ 255 }
-        ensures { InstantiationToAt h.0 arguments.entry.bytes.now arguments.entry.at arguments.entry.count self.now.unit.now self.now.handles.now self.now.constraints.now result }
+        ensures { InstantiationToAt h.0 arguments.entry.types.bytes.now arguments.entry.types.at arguments.entry.types.count self.now.unit.now self.now.handles.now self.now.constraints.now result }
     {
         let p = self.struct_handle_at(h)?;
-        let mut room = [0u8; 255];
-        let sets = &mut room[..arguments.count];
-        let end = self.gather(arguments, sets)?;
-        Ok((self.instantiated_abilities(p, sets)?, end))
+        let mut room = [0u8; 255]; // as many as a type can have arguments: no heap is used
+        let sets = &mut room[..arguments.types.count];
+        let end = self.gather(arguments.types, sets)?;
+        ending_at(self.instantiated_abilities(p, sets), end)
     }
 
     // The abilities of what `materialize_type` makes of a handle and these arguments.
@@ -147,12 +154,11 @@ impl AbilityTables<'_> {
     pub fn materialized_abilities(
         &self,
         h: StructHandleIndex,
-        arguments: TypeList,
+        arguments: SignatureView,
     ) -> PartialVMResult<AbilitySet>
-        requires { arguments.count ≤ 255 }
-        ensures { MaterializedAbilities h.0 arguments.entry.bytes.now arguments.entry.at arguments.entry.count self.now.unit.now self.now.handles.now self.now.constraints.now result }
+        ensures { MaterializedAbilities h.0 arguments.entry.types.bytes.now arguments.entry.types.at arguments.entry.types.count self.now.unit.now self.now.handles.now self.now.constraints.now result }
     {
-        if arguments.count == 0 {
+        if arguments.types.count == 0 {
             return self.struct_abilities(h);
         }
         let (set, _) = self.instantiation_abilities(h, arguments)?;

@@ -2,7 +2,6 @@
 #![tactic(auto, using(step_views::specs::Looked::looks, step_views::specs::Looked::types), unfolding(definitions::specs::TypeSafety::call, definitions::specs::TypeSafety::function_call, definitions::specs::TypeSafety::function_call_generic))]
 
 ghost use Rattle.definitions.specs.TypeSafety as step;
-ghost use Rattle.type_places.specs.Arguments.{Arguments};
 ghost use Rattle.type_stack.specs.Held.{Stacked};
 ghost use Rattle.type_stack.specs.Stepping.{StepsTo};
 ghost use Rattle.unit_tables.specs.Compiled.{compiled};
@@ -10,8 +9,6 @@ ghost use Rattle.handle_views.specs.Answers.{handle_of};
 
 use file_format::{FunctionHandleIndex, FunctionInstantiationIndex};
 use handle_views::FunctionHandle;
-use list_steps::Form;
-use signature_token::TypeList;
 use status::{PartialVMResult, StatusCode};
 use type_places::TypePlaces;
 use unit_tables::UnitView;
@@ -26,15 +23,13 @@ fn call(
     args: TypePlaces,
 ) -> PartialVMResult<usize>
     requires { Stacked area.old weight }
-    ensures { (q : Arguments args.entry.bytes.now args.entry.places.now) → StepsTo (step.call (compiled unit.now) (handle_of handle) q.subst) area.old weight area.new result }
+    ensures { StepsTo (step.call (compiled unit.now) (handle_of handle) args.entry.stand.subst) area.old weight area.new result }
 {
-    let s = unit.bytes;
-    let form = Form::Instantiated;
     let mismatch = StatusCode::CALL_TYPE_MISMATCH_ERROR;
     let parameters = unit_views::signature_at(unit, handle.parameters)?;
-    let below = list_steps::pop_each(area, weight, s, parameters, form, args, mismatch)?;
+    let below = list_steps::pop_each(area, weight, parameters, &args, mismatch)?;
     let returns = unit_views::signature_at(unit, handle.return_)?;
-    let pushed = list_steps::push_each(area, below, s, returns, args);
+    let pushed = list_steps::push_each(area, below, returns, args);
     type_stack::rebuilt(pushed)
 }
 
@@ -69,12 +64,7 @@ pub fn function_call_generic(
     let inst = handle_views::function_instantiation_at(unit, idx)?;
     let handle = handle_views::function_handle_at(unit, inst.handle)?;
     let type_args = unit_views::signature_at(unit, inst.type_parameters)?;
-    let types = TypeList {
-        bytes: unit.bytes,
-        at: type_args.at,
-        count: type_args.count,
-    };
-    let mut places = [0u16; 255];
-    let args = type_places::placed(types, &mut places);
+    let mut places = [0u16; 255]; // no heap is used
+    let args = type_places::placed(type_args.types, &mut places);
     call(area, weight, unit, handle, args)
 }

@@ -52,7 +52,7 @@ fn judge_in<R: Print>(rt: &R, call: u8, unit: &[u8], area: &mut [u8]) -> io::Res
 fn judge<R: Print>(rt: &R, call: u8, n: usize, unit: &[u8]) -> io::Result<()>
     requires { n ≤ 65536 }
 {
-    let mut area = [JUNK; 65536];
+    let mut area = [JUNK; 65536]; // no heap is used
     judge_in(rt, call, unit, &mut area[..n])
 }
 
@@ -74,6 +74,7 @@ fn judge_first<R: Print>(rt: &R, input: &[u8]) -> io::Result<usize>
     Ok(end)
 }
 
+// Judges each case. How long one is stands in it, so that no `for` takes the loop's place.
 pub fn judge_all<R: Print>(rt: &R, input: &[u8]) -> io::Result<()> {
     let mut rest = input;
     while !rest.is_empty() {

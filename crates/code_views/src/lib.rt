@@ -1,4 +1,5 @@
-// The code and the listed blocks of a unit that was read.
+// The code and the listed blocks of a unit that was read. That a number is one of the code's is asked of each call: it holds of the number and the
+// unit together, and loops give the numbers.
 #![tactic(auto)]
 
 ghost use Rattle.std.specs.Prelude.{◌<◌};
@@ -21,7 +22,10 @@ pub fn instruction_at(unit: &UnitView<'_>, i: usize) -> Instruction
     requires { i < unit.now.view.code.count }
     ensures { InstructionAt (compiled unit.now) i (opcode_byte unit.now i) result }
 {
-    record_views::instruction_at(unit.bytes, unit.place(unit.view.code, i))
+    record_views::instruction_at(
+        unit.bytes,
+        unit_tables::place(unit.index, unit.view.code, i),
+    )
 }
 
 // The opcode of instruction i alone.
@@ -30,7 +34,7 @@ pub fn opcode_at(unit: &UnitView<'_>, i: usize) -> u8
     requires { i < unit.now.view.code.count }
     ensures { OpcodeAt (compiled unit.now) i (opcode_byte unit.now i) result }
 {
-    unit.bytes[unit.place(unit.view.code, i)]
+    unit.bytes[unit_tables::place(unit.index, unit.view.code, i)]
 }
 
 // Block i, one of those listed.
@@ -39,7 +43,7 @@ pub fn block_at(unit: &UnitView<'_>, i: usize) -> Block
     requires { i < unit.now.view.blocks.count }
     ensures { BlockAt unit.now i result }
 {
-    let p = unit.place(unit.view.blocks, i);
+    let p = unit_tables::place(unit.index, unit.view.blocks, i);
     Block {
         first: numbers::u16_at(unit.bytes, p + 1),
         last: numbers::u16_at(unit.bytes, p + 3),

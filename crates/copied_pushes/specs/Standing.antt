@@ -7,16 +7,15 @@ use Rattle.definitions.specs.Machine.{push}
 use Rattle.definitions.specs.Places.{TypeAt, EndOfType}
 use Rattle.theorems.specs.AtLaws.{at_part}
 use Rattle.signature_token.specs.Ends.{type_room}
-use Rattle.type_stack.specs.Held.{Part, part}
+use Rattle.type_stack.specs.Held.{part}
 use Rattle.type_stack.specs.Stepping.{StepsTo}
 use Rattle.type_stack.specs.Pushing.{PushesTo}
 use Rattle.type_stack.specs.Answers.{Stepped}
 use Rattle.type_pushes.specs.References.{ReferenceCommand}
 
 module _ {s : List ℕ} {d z : ℕ} (p : TypeAt s d) (f : EndOfType s d z) where
-  -- the part up to its end
-  pub type_part : length s ≤ 65535 → Part s d z
-  type_part l = record { order = omega (arith, f p); within = omega (arith, f p, type_room p); short = l }
+  pub type_end : z ≤ length s
+  type_end = omega (arith, f p, type_room p)
 
   pub type_bytes : encode p.type ≡ part s d z
   type_bytes =

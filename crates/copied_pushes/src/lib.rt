@@ -8,6 +8,7 @@ ghost use Rattle.type_stack.specs.Pushing.{PushesTo};
 use status::{PartialVMResult, StatusCode};
 
 // Writes an entry of the type of these bytes, for which there is room. Answers the weight after it.
+#[tactic(auto, using(type_stack::specs::Pushing::sealed, type_stack::specs::Spliced::lent_part))]
 pub fn write_part(area: &mut [u8], weight: usize, bytes: &[u8]) -> usize
     requires { (length bytes.now ≤ 65535) × (weight + (length bytes.now + 2) ≤ length area.old) }
     ensures { (result ≡ weight + (length bytes.now + 2)) × (area.new ≡ entered area.old weight bytes.now) }
@@ -18,6 +19,7 @@ pub fn write_part(area: &mut [u8], weight: usize, bytes: &[u8]) -> usize
 }
 
 // Pushes the type of these bytes.
+#[tactic(auto, using(type_stack::specs::Pushing::pushing))]
 pub fn push_part(area: &mut [u8], weight: usize, bytes: &[u8]) -> PartialVMResult<usize>
     requires stacked { Stacked area.old weight }
     requires short { length bytes.now ≤ 65535 }
@@ -30,6 +32,7 @@ pub fn push_part(area: &mut [u8], weight: usize, bytes: &[u8]) -> PartialVMResul
 }
 
 // Pushes the type of a first byte over the type of these bytes: a reference to it, or a vector of it.
+#[tactic(auto, using(type_stack::specs::Pushing::pushing, type_stack::specs::Spliced::lent_part))]
 pub fn push_wrapped(
     area: &mut [u8],
     weight: usize,
@@ -51,6 +54,7 @@ pub fn push_wrapped(
 
 // Pushes the type that stands higher up in the area itself, from `from` to `to`, with room for a length behind it. ReadRef's: the popped
 // reference's referent.
+#[tactic(auto, using(type_stack::specs::Pushing::pushing, type_stack::specs::Spliced::moved, type_stack::specs::Held::part_length))]
 pub fn push_within(area: &mut [u8], weight: usize, from: usize, to: usize) -> PartialVMResult<usize>
     requires stacked { Stacked area.old weight }
     requires weight_le_from { (weight ≤ from) × Part area.old from to × (to + 2 ≤ length area.old) }

@@ -42,11 +42,7 @@ pub fn equality(area: &mut [u8], weight: usize, unit: &UnitView<'_>) -> PartialV
         at: top.start,
     };
     step_views::check_ability(operand, unit, Ability::Drop, mismatch)?;
-    let other = TypeRef {
-        bytes: area,
-        at: below.start,
-    };
-    if type_tests::same_type(area, top.start, top.len, other) {
+    if operand_steps::same_type(area, top, below) {
         return type_pushes::push_leaf(area, below.start, BOOL);
     }
     Err(mismatch)

@@ -9,7 +9,8 @@ use Rattle.definitions.specs.CompiledUnit as defs
 use Rattle.definitions.specs.Substitution.{materialize_type, instantiate, reference_to}
 use Rattle.definitions.specs.Machine.{Step, ◌>>=◌, ◌>>◌, look, check, push}
 use Rattle.definitions.specs.TypeSafety.{declared_fields}
-use Rattle.record_views.specs.declared.TypeList.{TypeList}
+use Rattle.signature_token.specs.declared.SignatureView.{SignatureView}
+use Rattle.signature_token.specs.declared.TypeRef.{TypeRef}
 use Rattle.record_views.specs.Records.{TypesIn, DefIs}
 use Rattle.signature_token.specs.Same.{Spans}
 use Rattle.type_tests.specs.Kinds.{ReferentAt}
@@ -18,7 +19,7 @@ use Rattle.type_tests.specs.declared.Referent.TheVariants as kind
 use Rattle.type_stack.specs.Stepping.{StepsTo}
 use Rattle.type_stack.specs.Answers.{Stepped}
 use Rattle.unit_tables.specs.Answers.{ResultIs}
-use Rattle.unit_views.specs.Lookups.{TypeIs}
+use Rattle.unit_views.specs.Lookups.{TypeOf}
 use Rattle.field_steps.specs.declared.Owner.{Owner}
 
 -- ── the operand ──
@@ -47,21 +48,21 @@ pub record FieldOwner : Type 0 where
 unfoldable pub field_owner : defs.CompiledUnit → ℕ → Result FieldOwner
 field_owner u idx = defs.field_handle_at u idx >>? λ handle. defs.struct_def_at u handle.owner >>? λ def. ok (record { def = def; field = handle.field })
 
-pub record OwnerIs (s : List ℕ) (o : FieldOwner) (r : Owner) : Type 0 where
-  pub def : DefIs s o.def r.def
+pub record OwnerIs (o : FieldOwner) (r : Owner) : Type 0 where
+  pub def : DefIs o.def r.def
   pub field : r.field ≡ o.field
 
--- some field's owner stands there
-pub record OwnerAt (s : List ℕ) (r : Owner) : Type 0 where
+-- the owner, as the definitions have it
+pub record OwnerAt (r : Owner) : Type 0 where
   pub owner : FieldOwner
-  pub are : OwnerIs s owner r
+  pub are : OwnerIs owner r
 
 -- the field's declared type
 unfoldable pub field_of : FieldOwner → Result SignatureToken
 field_of o = declared_fields BORROWFIELD_BAD_FIELD_ERROR o.def.field_information >>? λ fields. at fields o.field
 
-pub record FieldAt (s : List ℕ) (r : Owner) (q : Answer ℕ StatusCode) : Type 0 where
-  pub is : (o : OwnerAt s r) → ResultIs (TypeIs s) (field_of o.owner) q
+pub record FieldAt (r : Owner) (q : Answer TypeRef StatusCode) : Type 0 where
+  pub is : (o : OwnerAt r) → ResultIs TypeOf (field_of o.owner) q
 
 -- ── the program ──
 
@@ -73,5 +74,5 @@ borrow_from mut o type_args referent = do
   field_type ← look (instantiate field_def type_args)
   push (reference_to mut field_type)
 
-pub record BorrowsFrom (mut : Bool) (s : List ℕ) (r : Owner) (list : TypeList) (x len : ℕ) (a : List ℕ) (w : ℕ) (b : List ℕ) (q : Stepped) : Type 0 where
-  pub steps : (o : OwnerAt s r) (l : TypesIn s list) (p : Spans a x len) → StepsTo (borrow_from mut o.owner l.types p.type) a w b q
+pub record BorrowsFrom (mut : Bool) (r : Owner) (list : SignatureView) (x len : ℕ) (a : List ℕ) (w : ℕ) (b : List ℕ) (q : Stepped) : Type 0 where
+  pub steps : (o : OwnerAt r) (l : TypesIn list) (p : Spans a x len) → StepsTo (borrow_from mut o.owner l.types p.type) a w b q

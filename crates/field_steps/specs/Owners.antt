@@ -9,7 +9,7 @@ use Rattle.record_views.specs.declared.StructDef.{StructDef}
 use Rattle.record_views.specs.Records.{DefIs}
 use Rattle.type_stack.specs.Answers.{Stepped}
 use Rattle.type_stack.specs.Stepping.{StepsTo}
-use Rattle.unit_tables.specs.Answers.{ResultIs, what_found, refused_first, found_first}
+use Rattle.unit_tables.specs.Answers.{ResultIs, refused_first, found_first}
 use Rattle.handle_views.specs.declared.FieldHandle.{FieldHandle}
 use Rattle.handle_views.specs.Answers.{field_handle_of}
 use Rattle.step_views.specs.Looked.{looked_then}
@@ -18,19 +18,19 @@ use Rattle.field_steps.specs.declared.Owner.{Owner}
 
 -- ── the look-ups ──
 
-module _ {s : List ℕ} (u : defs.CompiledUnit) (idx : ℕ) where
-  pub no_handle : {v : StatusCode} → err v ≡ defs.field_handle_at u idx → ResultIs (OwnerIs s) (field_owner u idx) (Err v)
+module _ (u : defs.CompiledUnit) (idx : ℕ) where
+  pub no_handle : {v : StatusCode} → err v ≡ defs.field_handle_at u idx → ResultIs OwnerIs (field_owner u idx) (Err v)
   unfolding field_owner ◌>>?◌
   no_handle e = record { is = rw (← e) refl }
 
   module _ {h : FieldHandle} (e : ok (field_handle_of h) ≡ defs.field_handle_at u idx) where
-    pub no_owner : {v : StatusCode} → ResultIs (DefIs s) (defs.struct_def_at u h.owner.0) (Err v) → ResultIs (OwnerIs s) (field_owner u idx) (Err v)
+    pub no_owner : {v : StatusCode} → ResultIs DefIs (defs.struct_def_at u h.owner.0) (Err v) → ResultIs OwnerIs (field_owner u idx) (Err v)
     unfolding field_owner ◌>>?◌
     no_owner w = rw (← e) (refused_first _ w)
 
     pub an_owner :
-        {d : StructDef} → ResultIs (DefIs s) (defs.struct_def_at u h.owner.0) (Ok d) →
-        ResultIs (OwnerIs s) (field_owner u idx) (Ok (record { def = d; field = h.field }))
+        {d : StructDef} → ResultIs DefIs (defs.struct_def_at u h.owner.0) (Ok d) →
+        ResultIs OwnerIs (field_owner u idx) (Ok (record { def = d; field = h.field }))
     unfolding field_owner ◌>>?◌
     an_owner w = rw (← e) (found_first _ w (λ d k. record { is = record { def = k; field = refl } }))
 
@@ -38,10 +38,7 @@ pub ruleset owner_laws = (no_handle, no_owner, an_owner)
 
 -- ── what an answer tells ──
 
-module _ {s : List ℕ} {x : Result FieldOwner} {o : Owner} (w : ResultIs (OwnerIs s) x (Ok o)) where
-  pub found_owner : OwnerAt s o
-  found_owner = let n = what_found w in record { owner = n.0; are = n.2 }
-
+module _ {x : Result FieldOwner} {o : Owner} (w : ResultIs OwnerIs x (Ok o)) where
   pub owner_then :
-      (k : FieldOwner → Step) {a b : List ℕ} {v : ℕ} {q : Stepped} → ((f : OwnerAt s o) → StepsTo (k f.owner) a v b q) → StepsTo (look x >>= k) a v b q
+      (k : FieldOwner → Step) {a b : List ℕ} {v : ℕ} {q : Stepped} → ((f : OwnerAt o) → StepsTo (k f.owner) a v b q) → StepsTo (look x >>= k) a v b q
   owner_then k f = looked_then k w (λ h r. f (record { owner = h; are = r }))

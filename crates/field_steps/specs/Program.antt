@@ -11,7 +11,7 @@ use Rattle.definitions.specs.Machine.{Program, Step, ◌>>=◌, ◌>>◌, pop, l
 use Rattle.definitions.specs.TypeSafety as step
 use Rattle.definitions.specs.TypeSafety.{declared_fields}
 use Rattle.signature_token.specs.Same.{Spans, same_both}
-use Rattle.record_views.specs.declared.TypeList.{TypeList}
+use Rattle.signature_token.specs.declared.SignatureView.{SignatureView}
 use Rattle.record_views.specs.Records.{TypesIn}
 use Rattle.type_stack.specs.Stepping.{StepsTo}
 use Rattle.type_stack.specs.Answers.{Stepped}
@@ -84,8 +84,8 @@ module _ (u : defs.CompiledUnit) (mut : Bool) (idx : ℕ) (type_args : Signature
 
 -- the operand's referent compared with the owner's struct
 pub struct_test :
-    {a s : List ℕ} {x len : ℕ} {r : Owner} {list : TypeList} {b v : Bool} → StructIs a x len s r.def.handle.0 list b → b ≡ v →
-    (o : OwnerAt s r) (l : TypesIn s list) (p : Spans a x len) → same (materialize_type o.owner.def.struct_handle l.types) p.type ≡ v
+    {a : List ℕ} {x len : ℕ} {r : Owner} {list : SignatureView} {b v : Bool} → StructIs a x len r.def.handle.0 list b → b ≡ v →
+    (o : OwnerAt r) (l : TypesIn list) (p : Spans a x len) → same (materialize_type o.owner.def.struct_handle l.types) p.type ≡ v
 struct_test k e o l p =
     let t = materialize_type o.owner.def.struct_handle l.types in
     same_both p.type t t p.type sym sym ∙ ap (λ (h : ℕ). same p.type (materialize_type h l.types)) (sym o.are.def.handle) ∙ sym (k.is p l) ∙ e

@@ -4,24 +4,25 @@
 
 ghost use Rattle.definitions.specs.TypeSafety as step;
 ghost use Rattle.record_views.specs.Records.{TypesIn};
+ghost use Rattle.std.specs.Prelude.{◌≤◌, length};
 ghost use Rattle.signature_token.specs.Same.{Spans};
 ghost use Rattle.type_stack.specs.Held.{Stacked};
 ghost use Rattle.type_stack.specs.Stepping.{StepsTo};
 ghost use Rattle.unit_tables.specs.Answers.{ResultIs};
 ghost use Rattle.unit_tables.specs.Compiled.{compiled};
-ghost use Rattle.field_steps.specs.Borrows.{BorrowedAt, OwnerAt, FieldAt, BorrowsFrom, field_owner, OwnerIs};
+ghost use Rattle.field_steps.specs.Borrows.{BorrowedAt, FieldAt, BorrowsFrom, field_owner, OwnerIs};
 
 use file_format::{FieldHandleIndex, FieldInstantiationIndex};
-use record_views::{Fields, StructDef, TypeList};
-use signature_token::TypeRef;
+use record_views::{Fields, StructDef};
+use signature_token::{SignatureView, TypeList, TypeRef};
 use status::{PartialVMResult, StatusCode};
 use type_tests::Referent;
 use unit_tables::UnitView;
 
 // A field handle's struct definition, and the field's number in it.
 #[derive(Clone, Copy)]
-struct Owner {
-    def: StructDef,
+struct Owner<'a> {
+    def: StructDef<'a>,
     field: u16,
 }
 
@@ -37,24 +38,27 @@ fn borrowed_from(operand: TypeRef, mutable: bool) -> PartialVMResult<Option<usiz
     }
 }
 
-// The field's type, as it is declared: where it stands.
-fn field_at(s: &[u8], owner: Owner) -> PartialVMResult<usize>
-    requires { OwnerAt s.now owner }
-    ensures { FieldAt s.now owner result }
+// The field's type, as it is declared.
+fn field_at(owner: Owner<'_>) -> PartialVMResult<TypeRef<'_>>
+    ensures { FieldAt owner.entry result }
 {
     let Fields::Declared(list) = owner.def.fields else {
         return Err(StatusCode::BORROWFIELD_BAD_FIELD_ERROR);
     };
     let k = usize::from(owner.field);
-    if list.count <= k {
+    let TypeList { bytes, at, count } = list.types;
+    if count <= k {
         return Err(StatusCode::OUT_OF_TABLE);
     }
-    let before = signature_token::TypeList {
-        bytes: s,
-        at: list.at,
+    let before = TypeList {
+        bytes,
+        at,
         count: k,
     };
-    Ok(before.end())
+    Ok(TypeRef {
+        bytes,
+        at: before.end(),
+    })
 }
 
 // The rest of `borrow_field`, with the field's struct definition found: `at` and len are those of the operand's struct, start is the weight
@@ -64,38 +68,27 @@ fn borrow_from(
     start: usize,
     at: usize,
     len: usize,
-    unit: &UnitView<'_>,
     mutable: bool,
     owner: Owner,
-    type_args: TypeList,
+    type_args: SignatureView,
 ) -> PartialVMResult<usize>
     requires stacked { Stacked area.old start × Spans area.old at len }
-    requires owner_at { OwnerAt unit.now.bytes.now owner × TypesIn unit.now.bytes.now type_args }
-    ensures { BorrowsFrom mutable unit.now.bytes.now owner type_args at len area.old start area.new result }
+    requires short { length type_args.types.bytes.now ≤ 65535 }
+    ensures { BorrowsFrom mutable owner.entry type_args.entry at len area.old start area.new result }
 {
-    let s = unit.bytes;
-    if !made_types::struct_is(area, at, len, s, owner.def.handle, type_args) {
+    if !made_types::struct_is(area, at, len, owner.def.handle, type_args) {
         return Err(StatusCode::BORROWFIELD_TYPE_MISMATCH_ERROR);
     }
-    let field = field_at(s, owner)?;
-    let field_def = TypeRef {
-        bytes: s,
-        at: field,
-    };
-    let types = signature_token::TypeList {
-        bytes: s,
-        at: type_args.at,
-        count: type_args.count,
-    };
-    let mut places = [0u16; 255];
-    let args = type_places::placed(types, &mut places);
+    let field_def = field_at(owner)?;
+    let mut places = [0u16; 255]; // no heap is used
+    let args = type_places::placed(type_args.types, &mut places);
     made_types::push_field_reference(area, start, mutable, field_def, args)
 }
 
 // A field handle's struct definition.
 #[tactic(auto, using(crate::specs::Owners::owner_laws))]
-fn field_owner(unit: &UnitView<'_>, idx: FieldHandleIndex) -> PartialVMResult<Owner>
-    ensures { ResultIs (OwnerIs unit.now.bytes.now) (field_owner (compiled unit.now) idx.0) result }
+fn field_owner<'a>(unit: &UnitView<'a>, idx: FieldHandleIndex) -> PartialVMResult<Owner<'a>>
+    ensures { ResultIs OwnerIs (field_owner (compiled unit.now) idx.0) result }
 {
     let handle = handle_views::field_handle_at(unit, idx)?;
     let def = unit_views::struct_def_at(unit, handle.owner)?;
@@ -113,11 +106,11 @@ pub fn borrow_field(
     unit: &UnitView<'_>,
     mutable: bool,
     idx: FieldHandleIndex,
-    type_args: TypeList,
+    type_args: SignatureView,
 ) -> PartialVMResult<usize>
     requires stacked { Stacked area.old weight }
-    requires types_in { TypesIn unit.now.bytes.now type_args }
-    ensures { (q : TypesIn unit.now.bytes.now type_args) → StepsTo (step.borrow_field (compiled unit.now) mutable idx.0 q.types) area.old weight area.new result }
+    requires short { length type_args.types.bytes.now ≤ 65535 }
+    ensures { (q : TypesIn type_args.entry) → StepsTo (step.borrow_field (compiled unit.now) mutable idx.0 q.types) area.old weight area.new result }
 {
     let top = type_stack::pop(area, weight)?;
     let operand = TypeRef {
@@ -127,16 +120,8 @@ pub fn borrow_field(
     let referent = borrowed_from(operand, mutable)?;
     let owner = field_owner(unit, idx)?;
     let at = referent.ok_or(StatusCode::BORROWFIELD_TYPE_MISMATCH_ERROR)?;
-    borrow_from(
-        area,
-        top.start,
-        at,
-        top.len - 1,
-        unit,
-        mutable,
-        owner,
-        type_args,
-    )
+    let len = top.len - 1;
+    borrow_from(area, top.start, at, len, mutable, owner, type_args)
 }
 
 // `MutBorrowFieldGeneric`, `ImmBorrowFieldGeneric`.

@@ -2,9 +2,7 @@
 -- arguments in step. Assumes nothing.
 use mathlib.Core.Path.{◌≡◌, refl}
 use mathlib.Core.List.{List, [], ◌∷◌, map}
-use Prim.Native.Nat.{ℕ, ◌≤◌, ◌<◌}
-use native.Mathlib.Omega.{arith}
-use lib.Bits.{bit_and, and_le_r, and_mask}
+use Prim.Native.Nat.{ℕ}
 use lib.ListN.{length, length-map}
 use borrow.Author.Tests.{eq-eqb, ne_eqb}
 use Rattle.definitions.specs.Result.{ok, err}
@@ -13,13 +11,6 @@ use Rattle.status.specs.declared.StatusCode.TheVariants.{VERIFIER_INVARIANT_VIOL
 use Rattle.std.specs.List.{fold, zip}
 use Rattle.file_format.specs.AbilitySet.{is_phantom_byte, set_of}
 use Rattle.file_format.specs.declared.AbilitySet.{AbilitySet}
-
--- a byte keeps all its bits within 15 exactly where it is at most 15
-pub within_15 : (n : ℕ) → bit_and n 15 ≡ n → n ≤ 15
-within_15 n kept = omega (arith, and_le_r n 15)
-
-pub beyond_15 : (n : ℕ) → (bit_and n 15 ≡ n → ⊥) → 15 < n
-beyond_15 n lost = omega (arith, and_mask n 4)
 
 -- one turn of the walk of `polymorphic_abilities`: a parameter's phantom byte and its argument's set meet the set so far
 abbrev pub met : AbilitySet → ℕ × ℕ → AbilitySet

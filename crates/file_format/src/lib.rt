@@ -121,7 +121,8 @@ impl AbilitySet {
         }
     }
 
-    // The abilities of a generic type over its arguments. They must be as many as its parameters.
+    // The abilities of a generic type over its arguments. They must be as many as its parameters. Both come as bytes, the phantoms as the unit has
+    // them: a slice of sets or of bools would be a copy.
     #[tactic(auto, using(crate::proofs::Sets::unequal))]
     pub fn polymorphic_abilities(
         declared: AbilitySet,

@@ -6,9 +6,9 @@ use Rattle.definitions.specs.Result.{ok, at}
 use Rattle.definitions.specs.SignatureToken.{Signature}
 use Rattle.definitions.specs.CompiledUnit as defs
 use Rattle.definitions.specs.Reader.{compiled_unit, items, ability, signature_of, function_view}
-use Rattle.record_views.specs.Records.{ListIs, ListAt}
+use Rattle.record_views.specs.Records.{ListIs, ListHere}
 use Rattle.unit.specs.declared.View.{View}
-use Rattle.record_views.specs.declared.TypeList.{TypeList}
+use Rattle.signature_token.specs.declared.SignatureView.{SignatureView}
 use Rattle.std.proofs.Math.Decide.{dec_le}
 use Rattle.status.specs.declared.StatusCode.TheVariants.{VALUE}
 use Rattle.definitions.specs.Reading.{read, here, need, byte, u16, many}
@@ -17,7 +17,7 @@ use Rattle.unit.specs.Standing.{then-parts, here_is, needed}
 use Rattle.unit.specs.Views.{UnitRead, view_of}
 use Rattle.unit_tables.specs.declared.UnitView.{UnitView}
 use Rattle.unit_tables.specs.Compiled.{unit_read, compiled, signatures_fit}
-use Rattle.unit_views.specs.Lookups.{signature_room}
+use Rattle.unit_views.specs.Lookups.{signature_listed}
 use Rattle.function_views.specs.declared.FunctionTypes.{FunctionTypes}
 use Rattle.function_views.specs.declared.FunctionTypes.TheVariants.{Parameters, Return, Locals}
 use Rattle.unit_tables.specs.Tables.{past, stand, signatures_in, unit_short, EntryIs, found}
@@ -125,13 +125,15 @@ module _ (unit : UnitView) (which : FunctionTypes) where
         go (yes h) = let z : ◌≡◌ {A = ℕ} 0 1 = let y = past (signatures_in (unit_read unit)) h in let x = named_is in cc in absurd (omega arith)
         go (no h) = omega arith
 
-    pub named_here : {p : ℕ} {r : TypeList} → EntryIs unit.index.now unit.view.signatures i p → ListAt unit.bytes.now (p + 1) r → ListIs unit.bytes.now (types_of which (compiled unit).function) r
-    unfolding compiled_unit
+    pub named_here :
+        {p : ℕ} {r : SignatureView} → EntryIs unit.index.now unit.view.signatures i p → ((k : ListHere unit.bytes.now (p + 1)) → ListIs k.types r) →
+        ListIs (types_of which (compiled unit).function) r
+    unfolding signature_listed compiled_unit
     named_here w l =
         let x = found (signatures_in (unit_read unit)) w in
         let y = named_is in
         let z = x.is in
         let q : x.item ≡ types_of which (compiled unit).function = cc in
-        rw q at (l (compiled unit).head x.item _ x.stands.reads)
+        rw q at (l (signature_listed unit i w))
 
-pub ruleset named_laws = (signatures_fit, signature_room, named_room, named_within, named_below)
+pub ruleset named_laws = (signatures_fit, signature_listed, named_room, named_within, named_below)

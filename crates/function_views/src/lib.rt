@@ -6,7 +6,7 @@ ghost use Rattle.record_views.specs.Records.{ListIs};
 ghost use Rattle.unit_tables.specs.Compiled.{compiled};
 ghost use Rattle.function_views.specs.Named.{types_of, offset_of};
 
-use record_views::TypeList;
+use signature_token::SignatureView;
 use unit_tables::UnitView;
 
 // A list of types of the function, each by the place of its signature's index in the function's record.
@@ -28,10 +28,11 @@ impl FunctionTypes {
 
 // The types of one of the function's lists.
 #[tactic(auto, using(crate::specs::Named::named_laws))]
-pub fn function_types(unit: &UnitView<'_>, which: FunctionTypes) -> TypeList
-    ensures { ListIs unit.now.bytes.now (types_of which (compiled unit.now).function) result }
+pub fn function_types<'a>(unit: &UnitView<'a>, which: FunctionTypes) -> SignatureView<'a>
+    ensures are { ListIs (types_of which (compiled unit.now).function) result }
+    ensures in_unit { result.types.bytes.now ≡ unit.now.bytes.now }
 {
     let signature = numbers::u16_at(unit.bytes, unit.view.function + which.offset());
-    let p = unit.place(unit.view.signatures, usize::from(signature));
-    record_views::type_list(unit.bytes, p + 1)
+    let p = unit_tables::place(unit.index, unit.view.signatures, usize::from(signature));
+    record_views::signature_at(unit.bytes, p + 1)
 }

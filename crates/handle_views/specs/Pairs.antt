@@ -8,11 +8,11 @@ use Rattle.unit.specs.declared.Table.{Table}
 use Rattle.record_reader.specs.Apart.{u16_of, pair_read}
 use Rattle.unit_tables.specs.declared.UnitView.{UnitView}
 use Rattle.unit_tables.specs.Compiled.{compiled, module_only}
-use Rattle.unit_tables.specs.Tables.{TableIn, Fits, EntryIs, PastIs, placed, table_fits}
+use Rattle.unit_tables.specs.Tables.{TableIn, EntryIs, PastIs, placed, table_fits}
 
 -- the entries are within the index, and each of the records has four bytes after its command
 pub record PairsFit (s index : List ℕ) (t : Table) : Type 0 where
-  pub fits : Fits index t
+  pub there : (i : ℕ) → i < t.count → t.base + i < length index
   pub within : (i : ℕ) → i < t.count → get_or index (t.base + i) 0 + 4 < length s
 
 -- r has the two numbers of record i
@@ -46,12 +46,12 @@ module _ {s index : List ℕ} {t : Table} {i p : ℕ} (k : PairsFit s index t) (
 
 pub ruleset pair_laws = (pair_room)
 
-pub ruleset module_laws = (in_a_script)
+pub ruleset module_laws = (in_a_script, in_a_module)
 
 module _ {A : Type 0} (f : ℕ → ℕ → A) {s index : List ℕ} {t : Table} {l : List A} (k : TableIn (pair_of f) s index t l) where
   pub pairs_fit : PairsFit s index t
   pairs_fit = record {
-    fits = table_fits k;
+    there = (table_fits k).there;
     within = λ i h. let x = placed k {i = i} h in omega (arith, (pair_read f s _ x.stands.reads).within);
   }
 

@@ -25,6 +25,7 @@ pub struct FunctionHandle {
     pub return_: SignatureIndex,
 }
 
+// The Rust's own types, one for each kind of instantiation, so that they are not exchanged.
 #[derive(Clone, Copy)]
 pub struct FunctionInstantiation {
     pub handle: FunctionHandleIndex,
@@ -70,7 +71,7 @@ fn module_pair_at(unit: &UnitView<'_>, table: Table, i: u16) -> PartialVMResult<
 }
 
 // A function handle.
-#[tactic(auto, using(crate::specs::Lookups::function_handle_refused))]
+#[tactic(auto, using(crate::specs::Lookups::function_handle_laws))]
 pub fn function_handle_at(
     unit: &UnitView<'_>,
     idx: FunctionHandleIndex,
@@ -85,7 +86,7 @@ pub fn function_handle_at(
 }
 
 // A function handle with its type arguments' signature.
-#[tactic(auto, using(crate::specs::Lookups::function_instantiation_refused))]
+#[tactic(auto, using(crate::specs::Lookups::function_instantiation_laws))]
 pub fn function_instantiation_at(
     unit: &UnitView<'_>,
     idx: FunctionInstantiationIndex,
@@ -100,6 +101,7 @@ pub fn function_instantiation_at(
 }
 
 // A struct definition with its type arguments' signature.
+#[tactic(auto, using(crate::specs::Lookups::struct_instantiation_laws))]
 pub fn struct_instantiation_at(
     unit: &UnitView<'_>,
     idx: StructDefInstantiationIndex,
@@ -114,6 +116,7 @@ pub fn struct_instantiation_at(
 }
 
 // A field of a struct definition.
+#[tactic(auto, using(crate::specs::Lookups::field_handle_laws))]
 pub fn field_handle_at(unit: &UnitView<'_>, idx: FieldHandleIndex) -> PartialVMResult<FieldHandle>
     ensures { told field_handle_of result ≡ defs.field_handle_at (compiled unit.now) idx.0 }
 {
@@ -125,6 +128,7 @@ pub fn field_handle_at(unit: &UnitView<'_>, idx: FieldHandleIndex) -> PartialVMR
 }
 
 // A field handle with its type arguments' signature.
+#[tactic(auto, using(crate::specs::Lookups::field_instantiation_laws))]
 pub fn field_instantiation_at(
     unit: &UnitView<'_>,
     idx: FieldInstantiationIndex,

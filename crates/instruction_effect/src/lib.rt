@@ -5,7 +5,8 @@
 ghost use Rattle.std.specs.Prelude.{◌≡◌, true, ◌<◌};
 ghost use Rattle.definitions.specs.Result.{◌>>?◌};
 ghost use Rattle.definitions.specs.CompiledUnit.{function_handle_at, function_instantiation_at};
-ghost use Rattle.definitions.specs.StackUsage.{call_effect, field_count_at, field_count_of_instantiation};
+ghost use Rattle.definitions.specs.StackUsage.{call_effect, field_count_at, field_count_of_instantiation, instruction_effect};
+ghost use Rattle.record_views.specs.Records.{instruction_of};
 ghost use Rattle.unit_tables.specs.Answers.{told};
 ghost use Rattle.unit_tables.specs.Compiled.{compiled};
 ghost use Rattle.code_views.specs.Answers.{opcode_byte};
@@ -19,7 +20,7 @@ use file_format::{
 };
 use function_views::FunctionTypes;
 use handle_views::FunctionHandle;
-use record_views::Fields;
+use record_views::{Fields, Instruction};
 use status::PartialVMResult;
 use unit_tables::UnitView;
 
@@ -114,16 +115,18 @@ pub fn effects() -> [Effect; 71]
 
 // ── effects that are looked up ──
 
-// A call pops its parameters and pushes its returns.
+// A call pops its parameters and pushes its returns. A count's cast loses no bit, and there is no `From` of usize for u64.
+#[tactic(auto, using(crate::proofs::Looked::call_laws))]
 fn call_effect(unit: &UnitView<'_>, handle: FunctionHandle) -> PartialVMResult<(u64, u64)>
     ensures { told pops_and_pushes result ≡ call_effect (compiled unit.now) (handle_of handle) }
 {
     let parameters = unit_views::signature_at(unit, handle.parameters)?;
     let returns = unit_views::signature_at(unit, handle.return_)?;
-    Ok((parameters.count as u64, returns.count as u64))
+    Ok((parameters.types.count as u64, returns.types.count as u64))
 }
 
 // The effect of Call.
+#[tactic(auto, using(crate::proofs::Looked::steps))]
 fn call_effect_at(unit: &UnitView<'_>, idx: FunctionHandleIndex) -> PartialVMResult<(u64, u64)>
     ensures { told pops_and_pushes result ≡ (function_handle_at (compiled unit.now) idx.0 >>? call_effect (compiled unit.now)) }
 {
@@ -132,6 +135,7 @@ fn call_effect_at(unit: &UnitView<'_>, idx: FunctionHandleIndex) -> PartialVMRes
 }
 
 // The effect of CallGeneric. Its type arguments are not looked up.
+#[tactic(auto, using(crate::proofs::Looked::steps))]
 fn call_generic_effect_at(
     unit: &UnitView<'_>,
     idx: FunctionInstantiationIndex,
@@ -150,11 +154,12 @@ fn field_count(unit: &UnitView<'_>, idx: StructDefinitionIndex) -> PartialVMResu
     let def = unit_views::struct_def_at(unit, idx)?;
     match def.fields {
         Fields::Native => Ok(0),
-        Fields::Declared(list) => Ok(list.count as u64),
+        Fields::Declared(list) => Ok(list.types.count as u64),
     }
 }
 
 // The same of an instantiated struct. Its type arguments are not looked up.
+#[tactic(auto, using(crate::proofs::Looked::steps), unfolding(definitions::specs::StackUsage::field_count_of_instantiation))]
 fn field_count_of_instantiation(
     unit: &UnitView<'_>,
     idx: StructDefInstantiationIndex,
@@ -165,20 +170,19 @@ fn field_count_of_instantiation(
     field_count(unit, inst.def)
 }
 
-// What the i-th instruction, one whose effect is looked up, pops and pushes: by the opcode's number, as document 01 has it.
-fn looked_up_effect(unit: &UnitView<'_>, i: usize) -> PartialVMResult<(u64, u64)>
-    requires i_lt_count { i < unit.now.view.code.count }
-    requires i_value { looks_up (opcode_byte unit.now i) ≡ true }
-    ensures { InstructionEffectAt (compiled unit.now) i result }
+// What an instruction pops and pushes, one whose effect is looked up: by the opcode's number, as document 01 has it.
+#[tactic(auto, using(crate::proofs::Looked::by_opcode))]
+fn effect_by_opcode(unit: &UnitView<'_>, instruction: Instruction) -> PartialVMResult<(u64, u64)>
+    requires { looks_up instruction.opcode ≡ true }
+    ensures { told pops_and_pushes result ≡ instruction_effect (compiled unit.now) (instruction_of instruction.opcode instruction.local instruction.operand instruction.count) }
 {
-    let instruction = code_views::instruction_at(unit, i);
     let x = instruction.operand;
     let n = instruction.count;
     match instruction.opcode {
         // Ret
         1 => {
             let returns = function_views::function_types(unit, FunctionTypes::Return);
-            Ok((returns.count as u64, 0))
+            Ok((returns.types.count as u64, 0))
         }
         // Call, CallGeneric
         17 => call_effect_at(unit, FunctionHandleIndex(x)),
@@ -201,11 +205,21 @@ fn looked_up_effect(unit: &UnitView<'_>, i: usize) -> PartialVMResult<(u64, u64)
     }
 }
 
+// The same of the i-th instruction.
+#[tactic(auto, using(crate::proofs::Looked::looked_up))]
+fn looked_up_effect(unit: &UnitView<'_>, i: usize) -> PartialVMResult<(u64, u64)>
+    requires i_lt_count { i < unit.now.view.code.count }
+    requires i_value { looks_up (opcode_byte unit.now i) ≡ true }
+    ensures { InstructionEffectAt (compiled unit.now) i result }
+{
+    effect_by_opcode(unit, code_views::instruction_at(unit, i))
+}
+
 // ── any instruction ──
 
 // What the i-th instruction pops and pushes, the Rust's `(num_pops, num_pushes)`: the pair that the table has for its opcode, and only where that
 // is marked by the whole instruction.
-#[tactic(auto, using(crate::proofs::Looked::marked))]
+#[tactic(auto, using(crate::proofs::Looked::by_table))]
 pub fn instruction_effect(
     pair: Effect,
     unit: &UnitView<'_>,

@@ -1,14 +1,14 @@
 -- What it is that an instruction's step is done, by its opcode and operands and by its place in the code; and the laws by which an arm of the
 -- decision over the opcode knows its step.
-use Rattle.std.specs.Prelude.{◌≡◌, refl, List, [], ◌∷◌, ℕ, zero, suc, ◌+◌, ◌-◌, ◌≤◌, ◌<◌, eqb, length}
+use Rattle.std.specs.Prelude.{◌≡◌, refl, List, [], ◌∷◌, ℕ, zero, suc, ◌+◌, ◌-◌, ◌≤◌, ◌<◌, eqb}
 use Rattle.std.proofs.Math.Decide.{ℕ_discrete}
 use Rattle.std.proofs.Common.{arith}
 use Rattle.definitions.specs.Result.{ok, at}
-use Rattle.definitions.specs.SignatureToken.{U8, U64, U128, arguments, encode, encode_all}
+use Rattle.definitions.specs.SignatureToken.{U8, U64, U128, encode}
 use Rattle.definitions.specs.Bytecode.{Bytecode}
 use Rattle.definitions.specs.CompiledUnit.{CompiledUnit}
 use Rattle.definitions.specs.TypeSafety.{verify_instr, borrow_loc}
-use Rattle.record_views.specs.Records.{instruction_of, TypesIn}
+use Rattle.record_views.specs.Records.{instruction_of}
 use Rattle.record_views.specs.declared.Instruction.{Instruction}
 use Rattle.instruction_arms.specs.declared.Arm.{Arm}
 use Rattle.instruction_arms.specs.Arms.{opcodes, InArm}
@@ -74,6 +74,10 @@ module _ {u : CompiledUnit} {it : Instruction} {a b : List ℕ} {w : ℕ} {r : S
   pub range_does : {lo hi : ℕ} → Between lo hi it → Each (StepOf u it a w b r) lo (hi - lo) → Does u it a w b r
   range_does z e = record { steps = by_range (StepOf u it a w b r) z e }
 
+  -- by the arm that was told, where each of its opcodes has the step
+  pub arm_does : {arm : Arm} {i o : ℕ} → InArm arm it.opcode → InstructionAt u i o it → Each (StepOf u it a w b r) (opcodes arm).0 ((opcodes arm).1 - (opcodes arm).0) → DoesAt u i a w b r
+  arm_does z k h = does_at k (range_does (between z refl) h)
+
   -- where they do not share it: what was done, Q, goes by the opcode
   apart :
       (Q : ℕ → Type 0) {lo hi : ℕ} → Between lo hi it → Each (λ o. Q o → StepOf u it a w b r o) lo (hi - lo) → Q it.opcode →
@@ -104,8 +108,3 @@ module _ {u : CompiledUnit} {it : Instruction} {a b : List ℕ} {w : ℕ} {r : S
 -- one of three opcodes in a row
 pub third : (lo : ℕ) {it : Instruction} → Between lo (lo + 2) it → it.opcode - lo < 3
 third lo b = omega (arith, b.from, b.to)
-
--- no type arguments
-unfoldable pub no_types : (s : List ℕ) → TypesIn s (record { at = 0; count = 0 })
-unfolding arguments encode_all
-no_types s = record { types = []; are = record { counted = refl; small = omega arith; stands = record { rest = s; here = refl } } }

@@ -1,6 +1,8 @@
 // `verify_instr` of type_safety.rs: one decision over the opcode's arm picks the step. An instruction that names a table takes its operand as an
-// index of that table here; the effects that are looked up (crate instruction_effect) do so too.
-#![tactic(auto)]
+// index of that table here; the effects that are looked up (crate instruction_effect) do so too. A family's function decides once more, by the
+// opcode's number in document 01, which asks for such small functions; what families share is the form of these. An opcode stays a number: an enum
+// of 71 would be made of a byte to be taken apart. `Between` is the arm that `verify_instr` has taken.
+#![tactic(auto, using(crate::specs::Does::key_does, step_views::specs::Looked::few_bytes), unfolding(record_views::specs::Records::instruction_of, definitions::specs::TypeSafety::verify_instr))]
 
 ghost use Rattle.std.specs.Prelude.{◌≡◌, ◌+◌, ◌<◌};
 ghost use Rattle.type_stack.specs.Held.{Stacked};
@@ -16,9 +18,10 @@ use instruction_arms::Arm;
 use local_steps::{copy_loc, ld_const, move_loc, st_loc};
 use locals::Locals;
 use operand_steps::pop_leaf;
-use record_views::{Instruction, TypeList};
+use record_views::Instruction;
 use signature_token::{BOOL, U8, U64};
 use status::{PartialVMResult, StatusCode};
+use step_views::{generic_struct, plain_struct};
 use unit_tables::UnitView;
 
 // The commands of u8, u64 and u128, in this order.
@@ -83,10 +86,10 @@ fn struct_instr(
     let def = StructDefinitionIndex(instruction.operand);
     let inst = StructDefInstantiationIndex(instruction.operand);
     match opcode {
-        19 => struct_steps::pack(area, weight, unit, step_views::plain_struct(unit, def)?), // Pack
-        20 => struct_steps::pack(area, weight, unit, step_views::generic_struct(unit, inst)?), // PackGeneric
-        21 => struct_steps::unpack(area, weight, unit, step_views::plain_struct(unit, def)?), // Unpack
-        _ => struct_steps::unpack(area, weight, unit, step_views::generic_struct(unit, inst)?), // UnpackGeneric
+        19 => struct_steps::pack(area, weight, plain_struct(unit, def)), // Pack
+        20 => struct_steps::pack(area, weight, generic_struct(unit, inst)), // PackGeneric
+        21 => struct_steps::unpack(area, weight, plain_struct(unit, def)), // Unpack
+        _ => struct_steps::unpack(area, weight, generic_struct(unit, inst)), // UnpackGeneric
     }
 }
 
@@ -104,7 +107,7 @@ fn field_instr(
     let opcode = instruction.opcode;
     let handle = FieldHandleIndex(instruction.operand);
     let inst = FieldInstantiationIndex(instruction.operand);
-    let none = TypeList { at: 0, count: 0 };
+    let none = unit_views::no_types(unit);
     match opcode {
         28 => field_steps::borrow_field(area, weight, unit, true, handle, none), // MutBorrowField
         29 => field_steps::borrow_field_generic(area, weight, unit, true, inst), // MutBorrowFieldGeneric
@@ -127,7 +130,7 @@ fn global_instr(
     let opcode = instruction.opcode;
     let def = StructDefinitionIndex(instruction.operand);
     let inst = StructDefInstantiationIndex(instruction.operand);
-    let none = TypeList { at: 0, count: 0 };
+    let none = unit_views::no_types(unit);
     match opcode {
         32 => global_steps::borrow_global(area, weight, unit, true, def, none), // MutBorrowGlobal
         33 => global_steps::borrow_global_generic(area, weight, unit, true, inst), // MutBorrowGlobalGeneric
@@ -151,17 +154,12 @@ fn resource_instr(
     let def = StructDefinitionIndex(instruction.operand);
     let inst = StructDefInstantiationIndex(instruction.operand);
     match opcode {
-        55 => resource_steps::exists(area, weight, unit, step_views::plain_struct(unit, def)?), // Exists
-        56 => resource_steps::exists(area, weight, unit, step_views::generic_struct(unit, inst)?), // ExistsGeneric
-        57 => resource_steps::move_from(area, weight, unit, step_views::plain_struct(unit, def)?), // MoveFrom
-        58 => resource_steps::move_from(
-            area,
-            weight,
-            unit,
-            step_views::generic_struct(unit, inst)?,
-        ), // MoveFromGeneric
-        59 => resource_steps::move_to(area, weight, unit, step_views::plain_struct(unit, def)?), // MoveTo
-        _ => resource_steps::move_to(area, weight, unit, step_views::generic_struct(unit, inst)?), // MoveToGeneric
+        55 => resource_steps::exists(area, weight, unit, plain_struct(unit, def)), // Exists
+        56 => resource_steps::exists(area, weight, unit, generic_struct(unit, inst)), // ExistsGeneric
+        57 => resource_steps::move_from(area, weight, unit, plain_struct(unit, def)), // MoveFrom
+        58 => resource_steps::move_from(area, weight, unit, generic_struct(unit, inst)), // MoveFromGeneric
+        59 => resource_steps::move_to(area, weight, unit, plain_struct(unit, def)), // MoveTo
+        _ => resource_steps::move_to(area, weight, unit, generic_struct(unit, inst)), // MoveToGeneric
     }
 }
 
@@ -192,6 +190,7 @@ fn vector_instr(
 }
 
 // `verify_instr` of the i-th instruction.
+#[tactic(auto, using(crate::specs::Does::arm_does, type_stack::specs::Stepping::done_here), unfolding(record_views::specs::Records::instruction_of, definitions::specs::TypeSafety::verify_instr, crate::specs::Does::Each))]
 pub fn verify_instr(
     area: &mut [u8],
     weight: usize,
@@ -211,8 +210,8 @@ pub fn verify_instr(
         Arm::Ret => list_steps::ret_step(area, weight, unit),
         Arm::BrBool => pop_leaf(area, weight, BOOL, StatusCode::BR_TYPE_MISMATCH_ERROR),
         Arm::Branch => Ok(weight),
-        Arm::LdInteger => type_pushes::push_leaf(area, weight, integer_type(opcode - 5)),
-        Arm::Cast => operand_steps::cast(area, weight, integer_type(opcode - 8)),
+        Arm::LdInteger => type_pushes::push_leaf(area, weight, integer_type(opcode - 5)), // LdU8, LdU64, LdU128
+        Arm::Cast => operand_steps::cast(area, weight, integer_type(opcode - 8)), // CastU8, CastU64, CastU128
         Arm::LdConst => ld_const(area, weight, unit, ConstantPoolIndex(it.operand)),
         Arm::LdBool => type_pushes::push_leaf(area, weight, BOOL),
         Arm::CopyLoc => copy_loc(area, weight, locals, local),

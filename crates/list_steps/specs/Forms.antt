@@ -6,37 +6,30 @@ use Rattle.definitions.specs.SignatureToken.{SignatureToken, Signature}
 use Rattle.definitions.specs.Substitution.{instantiate, instantiate_each}
 use Rattle.definitions.specs.Machine.{pop_each, push_each}
 use Rattle.definitions.specs.Places.{TypeAt}
-use Rattle.record_views.specs.declared.TypeList.{TypeList}
+use Rattle.signature_token.specs.declared.SignatureView.{SignatureView}
 use Rattle.record_views.specs.Records.{TypesIn}
 use Rattle.signature_token.specs.Same.{Spans}
 use Rattle.type_places.specs.Arguments.{Arguments}
 use Rattle.substitution_comparison.specs.Compare.{compared}
 use Rattle.type_stack.specs.Stepping.{StepsTo}
 use Rattle.type_stack.specs.Answers.{Stepped}
-use Rattle.list_steps.specs.declared.Form.{Form}
-use Rattle.list_steps.specs.declared.Form.TheVariants.{Written, Instantiated}
 
--- what is made of a type of the list
-unfoldable pub formed : Form → Signature → SignatureToken → Result SignatureToken
-formed Written subst t = ok t
-formed Instantiated subst t = instantiate t subst
+-- r compares the type of len bytes at x of a with what f makes of the type at `at` of s
+pub record ComparedWith (f : SignatureToken → Result SignatureToken) (a : List ℕ) (x len : ℕ) (s : List ℕ) (at : ℕ) (r : Answer Bool StatusCode) : Type 0 where
+  pub is : (p : Spans a x len) (q : TypeAt s at) → r ≡ compared p.type (f q.type)
 
--- r compares the type of len bytes at x of a with what is made of the type at `at` of s
-pub record FormComparedAt (form : Form) (a : List ℕ) (x len : ℕ) (s : List ℕ) (at : ℕ) (args places : List ℕ) (r : Answer Bool StatusCode) : Type 0 where
-  pub is : (p : Spans a x len) (q : TypeAt s at) (l : Arguments args places) → r ≡ compared p.type (formed form l.subst q.type)
-
--- an operand is popped for each type of the list, the last first
-pub record PopsEach (form : Form) (s : List ℕ) (list : TypeList) (args places : List ℕ) (status : StatusCode) (a : List ℕ) (w : ℕ) (r : Stepped) : Type 0 where
-  pub steps : (p : TypesIn s list) (q : Arguments args places) → StepsTo (pop_each status (formed form q.subst) (reverse p.types)) a w a r
+-- an operand is popped for each type of the list, as f makes it, the last first
+pub record PopsEach (f : SignatureToken → Result SignatureToken) (list : SignatureView) (status : StatusCode) (a : List ℕ) (w : ℕ) (r : Stepped) : Type 0 where
+  pub steps : (p : TypesIn list) → StepsTo (pop_each status f (reverse p.types)) a w a r
 
 -- the types of the list are pushed, their parameters replaced
-pub record PushesEach (s : List ℕ) (list : TypeList) (args places : List ℕ) (a : List ℕ) (w : ℕ) (b : List ℕ) (r : Stepped) : Type 0 where
-  pub steps : (p : TypesIn s list) (q : Arguments args places) → StepsTo (push_each (λ t. instantiate t q.subst) p.types) a w b r
+pub record PushesEach (list : SignatureView) (args places : List ℕ) (a : List ℕ) (w : ℕ) (b : List ℕ) (r : Stepped) : Type 0 where
+  pub steps : (p : TypesIn list) (q : Arguments args places) → StepsTo (push_each (λ t. instantiate t q.subst) p.types) a w b r
 
 -- whether there is such a signature, or why not
 abbrev pub instantiates_of : Result Signature → Answer (Unit {0}) StatusCode
 instantiates_of (ok ts) = Ok tt
 instantiates_of (err status) = Err status
 
-pub record InstantiatesEach (s : List ℕ) (list : TypeList) (args places : List ℕ) (r : Answer (Unit {0}) StatusCode) : Type 0 where
-  pub is : (p : TypesIn s list) (q : Arguments args places) → r ≡ instantiates_of (instantiate_each p.types q.subst)
+pub record InstantiatesEach (list : SignatureView) (args places : List ℕ) (r : Answer (Unit {0}) StatusCode) : Type 0 where
+  pub is : (p : TypesIn list) (q : Arguments args places) → r ≡ instantiates_of (instantiate_each p.types q.subst)

@@ -13,9 +13,10 @@ use Rattle.definitions.specs.Substitution.{instantiate, instantiate_all, instant
 use Rattle.definitions.specs.Machine.{Step, ◌>>=◌, pop, push, look, check, pop_one, pop_each, push_one, push_each}
 use Rattle.theorems.specs.Bytes.{list_of_arguments}
 use Rattle.theorems.specs.Lookups.{used}
-use Rattle.type_places.specs.Arguments.{Arguments}
+use Rattle.definitions.specs.Places.{none}
+use Rattle.type_places.specs.Arguments.{Arguments, Arguments-prop}
 use Rattle.type_places.specs.Places.{PlacedList}
-use Rattle.record_views.specs.declared.TypeList.{TypeList}
+use Rattle.signature_token.specs.declared.SignatureView.{SignatureView}
 use Rattle.record_views.specs.Records.{TypesIn}
 use Rattle.record_views.specs.Reread.{types_at}
 use Rattle.substitution.specs.declared.Size.{Size}
@@ -23,8 +24,7 @@ use Rattle.substitution.specs.Instantiate.{filled_all}
 use Rattle.substitution.specs.Size.{SizesAt, size_from}
 use Rattle.type_stack.specs.Stepping.{StepsTo}
 use Rattle.type_stack.specs.Answers.{Stepped, exit_is}
-use Rattle.list_steps.specs.declared.Form.TheVariants.{Instantiated}
-use Rattle.list_steps.specs.Forms.{formed, PopsEach, PushesEach, InstantiatesEach, instantiates_of}
+use Rattle.list_steps.specs.Forms.{PopsEach, PushesEach, InstantiatesEach, instantiates_of}
 
 -- ── each of a list ──
 
@@ -69,23 +69,31 @@ module _ (ts subst : Signature) {us : Signature} (e : instantiate_each ts subst 
   pub pushes_instantiated : push_each ok us ≡ push_each (λ t. instantiate t subst) ts
   pushes_instantiated = pushes_made (λ t. instantiate t subst) (made_of ts subst e)
 
-module _ {s : List ℕ} {list : TypeList} {args places a : List ℕ} {w : ℕ} {r : Stepped} (p : TypesIn s list) (q : Arguments args places) {us : Signature} (e : instantiate_each p.types q.subst ≡ ok us) where
-  pub pops_fields : {y : StatusCode} → PopsEach Instantiated s list args places y a w r → StepsTo (pop_each y ok (reverse us)) a w a r
-  unfolding formed
-  pops_fields {y} h = rw (pops_instantiated p.types q.subst e y) (h.steps p q)
+module _ {list : SignatureView} {a : List ℕ} {w : ℕ} {r : Stepped} (p : TypesIn list) where
+  pub pops_fields : (subst : Signature) {us : Signature} → instantiate_each p.types subst ≡ ok us → {y : StatusCode} → PopsEach (λ t. instantiate t subst) list y a w r → StepsTo (pop_each y ok (reverse us)) a w a r
+  pops_fields subst e {y} h = rw (pops_instantiated p.types subst e y) (h.steps p)
 
-  pub pushes_fields : {b : List ℕ} → PushesEach s list args places a w b r → StepsTo (push_each ok us) a w b r
+module _ {list : SignatureView} {args places a : List ℕ} {w : ℕ} {r : Stepped} (p : TypesIn list) (q : Arguments args places) {us : Signature} (e : instantiate_each p.types q.subst ≡ ok us) where
+  pub pushes_fields : {b : List ℕ} → PushesEach list args places a w b r → StepsTo (push_each ok us) a w b r
   pushes_fields h = rw (pushes_instantiated p.types q.subst e) (h.steps p q)
 
 -- ── a list in the unit ──
 
-module _ {s : List ℕ} {list : TypeList} (q : TypesIn s list) where
-  pub list_small : list.count ≤ 255
-  list_small = omega (arith, q.are.small)
+pub list_small : (list : SignatureView) → list.types.count ≤ 255
+list_small list = omega (arith, list.few)
 
+module _ {list : SignatureView} (q : TypesIn list) where
   -- the types of a list, by their places, as arguments
-  abbrev pub arguments_of : {bytes places : List ℕ} → PlacedList s list.at list.count bytes places → Arguments bytes places
+  abbrev pub arguments_of : {bytes places : List ℕ} → PlacedList list.types.bytes.now list.types.at list.types.count bytes places → Arguments bytes places
   arguments_of p = record { subst = q.types; standing = rw (list_of_arguments q.types, ← p.same) at (p.standing (types_at q)) }
+
+  -- there are no others
+  pub placed_types : {bytes places : List ℕ} → PlacedList list.types.bytes.now list.types.at list.types.count bytes places → (a : Arguments bytes places) → a.subst ≡ q.types
+  placed_types {bytes} {places} p a = ap (λ (b : Arguments bytes places). b.subst) (Arguments-prop bytes places a (arguments_of p))
+
+-- no arguments
+pub no_arguments : {bytes : List ℕ} (a : Arguments bytes []) → a.subst ≡ []
+no_arguments {bytes} a = ap (λ (b : Arguments bytes []). b.subst) (Arguments-prop bytes [] a (record { subst = []; standing = none }))
 
 -- ── the test ──
 
@@ -100,9 +108,9 @@ each_all (t ∷ ts) subst = rw (each_all ts subst) (go (instantiate t subst) (in
     go (ok u) (err y) = refl
     go (err y) rs = refl
 
-module _ {s : List ℕ} {list : TypeList} {args places : List ℕ} where
+module _ {list : SignatureView} {args places : List ℕ} where
   -- what the size of all tells
-  pub sizes_found : {z : Size} → SizesAt s list.at list.count args places (Ok z) → InstantiatesEach s list args places (Ok tt)
+  pub sizes_found : {z : Size} → SizesAt list.types.bytes.now list.types.at list.types.count args places (Ok z) → InstantiatesEach list args places (Ok tt)
   unfolding filled_all size_from ◌>>?◌
   sizes_found {z} m = record { is = λ p q. go _ (instantiate_each p.types q.subst) (rw (each_all p.types q.subst) at (m.is (types_at p) q)) }
     where
@@ -111,7 +119,7 @@ module _ {s : List ℕ} {list : TypeList} {args places : List ℕ} where
       go end (err y) e = absurd cc
 
   pub sizes_refused :
-      {r : Answer (Unit {0}) StatusCode} {v : StatusCode} → IsErrAnd r (λ y. y ≡ v) → SizesAt s list.at list.count args places (Err v) → InstantiatesEach s list args places r
+      {r : Answer (Unit {0}) StatusCode} {v : StatusCode} → IsErrAnd r (λ y. y ≡ v) → SizesAt list.types.bytes.now list.types.at list.types.count args places (Err v) → InstantiatesEach list args places r
   unfolding filled_all size_from ◌>>?◌
   sizes_refused {v = v} h m = rw (exit_is h) (record { is = λ p q. go _ (instantiate_each p.types q.subst) (rw (each_all p.types q.subst) at (m.is (types_at p) q)) })
     where

@@ -8,9 +8,10 @@ use native.Mathlib.Omega.{arith}
 use Rattle.status.specs.declared.StatusCode.{StatusCode}
 use Rattle.definitions.specs.Result.{Result, ok, err}
 use Rattle.definitions.specs.SignatureToken.{SignatureToken, Signature, same}
+use Rattle.definitions.specs.Substitution.{instantiate}
 use Rattle.definitions.specs.Machine.{◌>>=◌, look, check, pop_one, pop_each, run}
 use Rattle.definitions.specs.Places.{TypeAt, Standing, none, more}
-use Rattle.record_views.specs.declared.TypeList.{TypeList}
+use Rattle.signature_token.specs.declared.SignatureView.{SignatureView}
 use Rattle.signature_token.specs.declared.TypeRef.{TypeRef}
 use Rattle.signature_token.specs.Same.{SameAt, spanned}
 use Rattle.type_places.specs.Arguments.{Arguments, IsPlaced}
@@ -23,20 +24,17 @@ use Rattle.type_stack.specs.Listed.{pop_each_law, pop_each_bad}
 use Rattle.type_stack.specs.Answers.{Stepped}
 use Rattle.type_stack.specs.declared.Entry.{Entry}
 use Rattle.operand_steps.specs.Operands.{span}
-use Rattle.list_steps.specs.declared.Form.{Form}
-use Rattle.list_steps.specs.declared.Form.TheVariants.{Written, Instantiated}
-use Rattle.list_steps.specs.Forms.{formed, FormComparedAt, PopsEach}
+use Rattle.list_steps.specs.Forms.{ComparedWith, PopsEach}
 
 -- ── a comparison ──
 
-module _ {form : Form} {a : List ℕ} {x len : ℕ} {s : List ℕ} {at : ℕ} {args slots : List ℕ} where
-  pub instantiated_compared : {r : Answer Bool StatusCode} → form ≡ Instantiated → ComparedAt a x s at args slots r → FormComparedAt form a x len s at args slots r
-  unfolding formed
-  instantiated_compared e k = rw e (record { is = λ p. k.is (spanned p) })
+module _ {a : List ℕ} {x len : ℕ} {s : List ℕ} {at : ℕ} where
+  pub instantiated_compared : {args slots : List ℕ} {r : Answer Bool StatusCode} (q : Arguments args slots) → ComparedAt a x s at args slots r → ComparedWith (λ t. instantiate t q.subst) a x len s at r
+  instantiated_compared q k = record { is = λ p t. k.is (spanned p) t q }
 
-  pub written_compared : {b : Bool} → form ≡ Written → SameAt a x len s at b → FormComparedAt form a x len s at args slots (Ok b)
-  unfolding formed compared
-  written_compared e k = rw e (record { is = λ p q l. ap Ok (k p q) })
+  pub written_compared : {b : Bool} → SameAt a x len s at b → ComparedWith ok a x len s at (Ok b)
+  unfolding compared
+  written_compared k = record { is = λ p t. ap Ok (k p t) }
 
 -- ── one pop ──
 
@@ -57,10 +55,10 @@ compared_steps t (err z) y = look_bad _ refl
 
 module _ {a : List ℕ} {w : ℕ} {x : Entry} where
   pub pop_compared :
-      TopOf a w (Ok x) → {form : Form} {s : List ℕ} {at : ℕ} {args slots : List ℕ} {v : Answer Bool StatusCode} → FormComparedAt form a x.start x.len s at args slots v →
-      (y : StatusCode) (p : TypeAt s at) (e : Arguments args slots) → StepsTo (pop_one y (formed form e.subst) p.type) a w a (answered y x.start v)
+      TopOf a w (Ok x) → {f : SignatureToken → Result SignatureToken} {s : List ℕ} {at : ℕ} {v : Answer Bool StatusCode} → ComparedWith f a x.start x.len s at v →
+      (y : StatusCode) (p : TypeAt s at) → StepsTo (pop_one y f p.type) a w a (answered y x.start v)
   unfolding pop_one
-  pop_compared k {form} m y p e = pop_then k (λ t h. rw (m.is (span h) p e) (compared_steps t (formed form e.subst p.type) y))
+  pop_compared k {f} m y p = pop_then k (λ t h. rw (m.is (span h) p) (compared_steps t (f p.type) y))
 
 -- ── the loop ──
 
@@ -79,59 +77,57 @@ last zero l (more {t = t} h w) = record { here = record { type = t; stands = h }
 last (suc j) l (more {t = t} h w) = let k = last j (omega arith) w in record { here = k.here; is = ap (λ (us : Signature). t ∷ us) k.is }
 
 -- of the types at the places all but the first i are popped
-pub record Popping (form : Form) (s places args slots : List ℕ) (y : StatusCode) (a : List ℕ) (w v i : ℕ) : Type 0 where
+pub record Popping (f : SignatureToken → Result SignatureToken) (s places : List ℕ) (y : StatusCode) (a : List ℕ) (w v i : ℕ) : Type 0 where
   pub under : Stacked a v
   pub most : i ≤ length places
   pub leads :
-      (p : Arguments s places) (q : Arguments args slots) →
-      Leads (Holds a w) (run (length a) (pop_each y (formed form q.subst) (reverse p.subst))) (Holds a v) (run (length a) (pop_each y (formed form q.subst) (reverse (take i p.subst))))
+      (p : Arguments s places) → Leads (Holds a w) (run (length a) (pop_each y f (reverse p.subst))) (Holds a v) (run (length a) (pop_each y f (reverse (take i p.subst))))
 
 -- the types at the places are popped, the last first
-abbrev pub PopsPlaces : Form → List ℕ → List ℕ → List ℕ → List ℕ → StatusCode → List ℕ → ℕ → Stepped → Type 0
-PopsPlaces form s places args slots y a w r =
-    (p : Arguments s places) (q : Arguments args slots) → StepsTo (pop_each y (formed form q.subst) (reverse p.subst)) a w a r
+abbrev pub PopsPlaces : (SignatureToken → Result SignatureToken) → List ℕ → List ℕ → StatusCode → List ℕ → ℕ → Stepped → Type 0
+PopsPlaces f s places y a w r = (p : Arguments s places) → StepsTo (pop_each y f (reverse p.subst)) a w a r
 
-pub popping_start : {form : Form} {s places args slots : List ℕ} {y : StatusCode} {a : List ℕ} {w : ℕ} → Stacked a w → Popping form s places args slots y a w w (length places)
-popping_start k = record { under = k; most = omega arith; leads = λ p q. rw (standing_all p.standing) leads_here }
+module _ {f : SignatureToken → Result SignatureToken} {s places : List ℕ} {y : StatusCode} {a : List ℕ} {w : ℕ} where
+  pub popping_start : Stacked a w → Popping f s places y a w w (length places)
+  popping_start k = record { under = k; most = omega arith; leads = λ p. rw (standing_all p.standing) leads_here }
 
-module _ {form : Form} {s places args slots : List ℕ} {y : StatusCode} {a : List ℕ} {w v i : ℕ} (h : Popping form s places args slots y a w v i) where
-  pub popping_end : i ≤ 0 → PopsPlaces form s places args slots y a w (Ok v)
-  unfolding pop_each
-  popping_end k p q = let e : i ≡ 0 = omega arith in leads_done refl (rw e at (h.leads p q))
+  module _ {v i : ℕ} (h : Popping f s places y a w v i) where
+    pub popping_end : i ≤ 0 → PopsPlaces f s places y a w (Ok v)
+    unfolding pop_each
+    popping_end k p = let e : i ≡ 0 = omega arith in leads_done refl (rw e at (h.leads p))
 
-  module _ (k : 0 < i) where
-    turn : (p : Arguments s places) → Last s places p.subst (i - 1)
-    turn p = last (i - 1) (omega (arith, h.most)) p.standing
+    module _ (k : 0 < i) where
+      turn : (p : Arguments s places) → Last s places p.subst (i - 1)
+      turn p = last (i - 1) (omega (arith, h.most)) p.standing
 
-    popping_at :
-        (p : Arguments s places) (q : Arguments args slots) →
-        Leads (Holds a w) (run (length a) (pop_each y (formed form q.subst) (reverse p.subst))) (Holds a v) (run (length a) (pop_each y (formed form q.subst) ((turn p).here.type ∷ reverse (take (i - 1) p.subst))))
-    popping_at p q =
-        let e : i ≡ suc (i - 1) = omega arith in
-        let z : reverse (take i p.subst) ≡ (turn p).here.type ∷ reverse (take (i - 1) p.subst) =
-        ap (λ (n : ℕ). reverse (take n p.subst)) e ∙ ap reverse (turn p).is ∙ reverse-append (take (i - 1) p.subst) ((turn p).here.type ∷ []) in
-        rw (← z) (h.leads p q)
+      popping_at :
+          (p : Arguments s places) →
+          Leads (Holds a w) (run (length a) (pop_each y f (reverse p.subst))) (Holds a v) (run (length a) (pop_each y f ((turn p).here.type ∷ reverse (take (i - 1) p.subst))))
+      popping_at p =
+          let e : i ≡ suc (i - 1) = omega arith in
+          let z : reverse (take i p.subst) ≡ (turn p).here.type ∷ reverse (take (i - 1) p.subst) =
+          ap (λ (n : ℕ). reverse (take n p.subst)) e ∙ ap reverse (turn p).is ∙ reverse-append (take (i - 1) p.subst) ((turn p).here.type ∷ []) in
+          rw (← z) (h.leads p)
 
-    module _ {t : TypeRef} (e : IsPlaced s places (i - 1) t) {r : Stepped} (o : (p : TypeAt t.bytes.now t.at) (q : Arguments args slots) → StepsTo (pop_one y (formed form q.subst) p.type) a v a r) where
-      popped : (p : Arguments s places) (q : Arguments args slots) → StepsTo (pop_one y (formed form q.subst) (turn p).here.type) a v a r
-      popped p q = (rw (e.bytes, e.place) at o) (turn p).here q
+      module _ {t : TypeRef} (e : IsPlaced s places (i - 1) t) {r : Stepped} (o : (p : TypeAt t.bytes.now t.at) → StepsTo (pop_one y f p.type) a v a r) where
+        popped : (p : Arguments s places) → StepsTo (pop_one y f (turn p).here.type) a v a r
+        popped p = (rw (e.bytes, e.place) at o) (turn p).here
 
-      pub popping_next : {z : ℕ} → Arguments s places → Arguments args slots → r ≡ Ok z → Popping form s places args slots y a w z (i - 1)
-      popping_next p q j = record {
-        under = and_stacked (popped p q) h.under j refl;
-        most = omega (arith, h.most);
-        leads = λ p q. leads_on (popping_at p q) (pop_each_law y _ _ _ (popped p q) refl j);
-      }
+        pub popping_next : {z : ℕ} → Arguments s places → r ≡ Ok z → Popping f s places y a w z (i - 1)
+        popping_next p j = record {
+          under = and_stacked (popped p) h.under j refl;
+          most = omega (arith, h.most);
+          leads = λ p. leads_on (popping_at p) (pop_each_law y _ _ _ (popped p) refl j);
+        }
 
-      pub popping_bad : {z : StatusCode} → r ≡ Err z → PopsPlaces form s places args slots y a w (Err z)
-      popping_bad j p q = leads_then (popping_at p q) (pop_each_bad y _ _ _ (popped p q) j)
+        pub popping_bad : {z : StatusCode} → r ≡ Err z → PopsPlaces f s places y a w (Err z)
+        popping_bad j p = leads_then (popping_at p) (pop_each_bad y _ _ _ (popped p) j)
 
 -- a list of no types
-pub pops_none :
-    {form : Form} {s args slots a : List ℕ} {list : TypeList} {y : StatusCode} {w : ℕ} → list.count ≡ 0 → PopsEach form s list args slots y a w (Ok w)
+pub pops_none : {f : SignatureToken → Result SignatureToken} {y : StatusCode} {a : List ℕ} {w : ℕ} {list : SignatureView} → list.types.count ≡ 0 → PopsEach f list y a w (Ok w)
 unfolding pop_each
-pops_none {form} {a = a} {y = y} {w = w} e = record { steps = λ p q. go p.types (formed form q.subst) (omega (arith, p.are.counted)) }
+pops_none {f} {y} {a} {w} e = record { steps = λ p. go p.types (omega (arith, p.are.counted)) }
   where
-    go : (ts : Signature) (f : SignatureToken → Result SignatureToken) → length ts ≡ 0 → StepsTo (pop_each y f (reverse ts)) a w a (Ok w)
-    go [] f z = done_here
-    go (t ∷ ts) f z = absurd (omega arith)
+    go : (ts : Signature) → length ts ≡ 0 → StepsTo (pop_each y f (reverse ts)) a w a (Ok w)
+    go [] z = done_here
+    go (t ∷ ts) z = absurd (omega arith)

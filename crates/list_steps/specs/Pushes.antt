@@ -13,7 +13,8 @@ use Rattle.definitions.specs.Substitution.{instantiate}
 use Rattle.definitions.specs.Machine.{push_each, run}
 use Rattle.definitions.specs.Places.{At, TypeAt}
 use Rattle.theorems.specs.AtLaws.{at_front, at_back}
-use Rattle.record_views.specs.declared.TypeList.{TypeList}
+use Rattle.signature_token.specs.declared.SignatureView.{SignatureView}
+use Rattle.record_views.specs.Reread.{types_in}
 use Rattle.record_views.specs.Records.{TypesIn}
 use Rattle.substitution.specs.declared.Size.{Size}
 use Rattle.type_places.specs.Arguments.{Arguments}
@@ -38,16 +39,16 @@ pub data Fit (f : SignatureToken → Result SignatureToken) (room : ℕ) : ℕ �
   more : {w : ℕ} {t u : SignatureToken} {ts : Signature} → f t ≡ ok u → w + (length (encode u) + 2) ≤ room → Fit f room (w + (length (encode u) + 2)) ts → Fit f room w (t ∷ ts)
 
 -- the types of the list, their parameters replaced, fit
-pub record AllFit (room w : ℕ) (s : List ℕ) (list : TypeList) (args places : List ℕ) : Type 0 where
-  pub is : (p : TypesIn s list) (q : Arguments args places) → Fit (λ t. instantiate t q.subst) room w p.types
+pub record AllFit (room w : ℕ) (list : SignatureView) (args places : List ℕ) : Type 0 where
+  pub is : (p : TypesIn list) (q : Arguments args places) → Fit (λ t. instantiate t q.subst) room w p.types
 
 -- what weighing the pushes of ts tells: they fit, or they are refused
 abbrev pub Weighed : ℕ → ℕ → (SignatureToken → Result SignatureToken) → Signature → Stepped → Type 0
 Weighed room w f ts (Ok v) = Fit f room w ts
 Weighed room w f ts (Err y) = Stuck room w (push_each f ts) y
 
-pub record WeighsEach (room w : ℕ) (s : List ℕ) (list : TypeList) (args places : List ℕ) (r : Stepped) : Type 0 where
-  pub is : (p : TypesIn s list) (q : Arguments args places) → Weighed room w (λ t. instantiate t q.subst) p.types r
+pub record WeighsEach (room w : ℕ) (list : SignatureView) (args places : List ℕ) (r : Stepped) : Type 0 where
+  pub is : (p : TypesIn list) (q : Arguments args places) → Weighed room w (λ t. instantiate t q.subst) p.types r
 
 -- ── a walk along the list ──
 
@@ -66,7 +67,7 @@ record Turn (s : List ℕ) (n p i : ℕ) (T : Signature → Type 0) : Type 0 whe
   stands : At s (p + length (encode first.type)) (encode_all (arguments rest))
   state : T (first.type ∷ rest)
 
-passed_start : {s : List ℕ} {list : TypeList} (k : TypesIn s list) {T : Signature → Type 0} → T k.types → Passed s list.count list.at 0 T
+passed_start : {list : SignatureView} (k : TypesIn list) {T : Signature → Type 0} → T k.types → Passed list.types.bytes.now list.types.count list.types.at 0 T
 passed_start k z = record { others = k.types; counted = omega (arith, k.are.counted); stands = k.are.stands; state = z }
 
 module _ {s : List ℕ} {n p i : ℕ} {T : Signature → Type 0} (h : Passed s n p i T) where
@@ -122,35 +123,35 @@ pub record Left (room w : ℕ) (f : SignatureToken → Result SignatureToken) (t
   pub fit : Fit f room v others → Fit f room w ts
 
 -- of the list the first i are weighed, and the others stand at p
-pub record Weighing (room w : ℕ) (s : List ℕ) (list : TypeList) (args places : List ℕ) (v p i : ℕ) : Type 0 where
+pub record Weighing (room w : ℕ) (list : SignatureView) (args places : List ℕ) (v p i : ℕ) : Type 0 where
   pub low : v ≤ room
-  pub is : (k : TypesIn s list) (q : Arguments args places) → Passed s list.count p i (Left room w (λ t. instantiate t q.subst) k.types v)
+  pub is : (k : TypesIn list) (q : Arguments args places) → Passed list.types.bytes.now list.types.count p i (Left room w (λ t. instantiate t q.subst) k.types v)
 
-module _ {room w : ℕ} {s : List ℕ} {list : TypeList} {args places : List ℕ} where
-  pub weighing_start : w ≤ room → Weighing room w s list args places w list.at 0
+module _ {room w : ℕ} {list : SignatureView} {args places : List ℕ} where
+  pub weighing_start : w ≤ room → Weighing room w list args places w list.types.at 0
   weighing_start l = record { low = l; is = λ k q. passed_start k (record { leads = leads_here; fit = λ z. z }) }
 
-  module _ {v p i : ℕ} (h : Weighing room w s list args places v p i) where
-    pub weighing_done : list.count ≤ i → WeighsEach room w s list args places (Ok v)
+  module _ {v p i : ℕ} (h : Weighing room w list args places v p i) where
+    pub weighing_done : list.types.count ≤ i → WeighsEach room w list args places (Ok v)
     weighing_done l = record { is = λ k q. (passed_done (h.is k q) l).fit none }
 
-    module _ (l : i < list.count) where
+    module _ (l : i < list.types.count) where
       -- what a turn needs
-      pub weighing_type : TypesIn s list → Arguments args places → TypeAt s p
-      weighing_type k q = (turn (h.is k q) l).first
+      pub weighing_type : Arguments args places → TypeAt list.types.bytes.now p
+      weighing_type q = (turn (h.is (types_in list) q) l).first
 
-      pub weighing_refused : {status : StatusCode} → SizeAt s p args places (Err status) → WeighsEach room w s list args places (Err status)
+      pub weighing_refused : {status : StatusCode} → SizeAt list.types.bytes.now p args places (Err status) → WeighsEach room w list args places (Err status)
       weighing_refused m = record {
         is = λ k q.
             let t = turn (h.is k q) l in
             stuck_on t.state.leads (stuck_each_bad _ _ _ (size_refused t.first q m));
       }
 
-      module _ {z : Size} (m : SizeAt s p args places (Ok z)) where
-        pub weighing_small : TypesIn s list → Arguments args places → z.len ≤ 65536
-        weighing_small k q = omega (arith, (size_made (turn (h.is k q) l).first q m).long)
+      module _ {z : Size} (m : SizeAt list.types.bytes.now p args places (Ok z)) where
+        pub weighing_small : Arguments args places → z.len ≤ 65536
+        weighing_small q = omega (arith, (size_made (turn (h.is (types_in list) q) l).first q m).long)
 
-        pub weighing_full : room - v < z.len + 2 → WeighsEach room w s list args places (Err NO_ROOM)
+        pub weighing_full : room - v < z.len + 2 → WeighsEach room w list args places (Err NO_ROOM)
         weighing_full g = record {
           is = λ k q.
               let t = turn (h.is k q) l in
@@ -158,7 +159,7 @@ module _ {room w : ℕ} {s : List ℕ} {list : TypeList} {args places : List ℕ
               stuck_on t.state.leads (stuck_each _ _ _ u.here (omega (arith, u.long, h.low)));
         }
 
-        pub weighing_next : room ≤ 65535 → z.len + 2 ≤ room - v → Weighing room w s list args places (v + (z.len + 2)) z.next (i + 1)
+        pub weighing_next : room ≤ 65535 → z.len + 2 ≤ room - v → Weighing room w list args places (v + (z.len + 2)) z.next (i + 1)
         weighing_next r g = record {
           low = omega (arith, h.low);
           is = λ k q.
@@ -180,10 +181,10 @@ pub record Written (a : List ℕ) (w : ℕ) (f : SignatureToken → Result Signa
   pub fit : Fit f (length a) v others
 
 -- of the list the first i are written, and the others stand at p
-pub record Writing (a : List ℕ) (w : ℕ) (s : List ℕ) (list : TypeList) (args places : List ℕ) (b : List ℕ) (v p i : ℕ) : Type 0 where
+pub record Writing (a : List ℕ) (w : ℕ) (list : SignatureView) (args places : List ℕ) (b : List ℕ) (v p i : ℕ) : Type 0 where
   pub same : length b ≡ length a
   pub low : v ≤ length b
-  pub is : (k : TypesIn s list) (q : Arguments args places) → Passed s list.count p i (Written a w (λ t. instantiate t q.subst) k.types b v)
+  pub is : (k : TypesIn list) (q : Arguments args places) → Passed list.types.bytes.now list.types.count p i (Written a w (λ t. instantiate t q.subst) k.types b v)
 
 -- the first of those that fit: what is made of it, for which there is room, and the others
 record FirstFits (f : SignatureToken → Result SignatureToken) (room w : ℕ) (t : SignatureToken) (ts : Signature) : Type 0 where
@@ -199,67 +200,71 @@ filled_made : (t : SignatureToken) (subst : Signature) {u : SignatureToken} → 
 unfolding filled ◌>>?◌
 filled_made t subst e = rw e
 
-module _ {a : List ℕ} {w : ℕ} {s : List ℕ} {list : TypeList} {args places : List ℕ} where
-  pub writing_start : Stacked a w → AllFit (length a) w s list args places → Writing a w s list args places a w list.at 0
+module _ {a : List ℕ} {w : ℕ} {list : SignatureView} {args places : List ℕ} where
+  pub writing_start : Stacked a w → AllFit (length a) w list args places → Writing a w list args places a w list.types.at 0
   writing_start k h = record { same = refl; low = k.holds.fits; is = λ k q. passed_start k (record { leads = leads_here; fit = h.is k q }) }
 
-  module _ {b : List ℕ} {v p i : ℕ} (h : Writing a w s list args places b v p i) where
-    pub writing_done : list.count ≤ i → PushesEach s list args places a w b (Ok v)
+  module _ {b : List ℕ} {v p i : ℕ} (h : Writing a w list args places b v p i) where
+    pub writing_done : list.types.count ≤ i → PushesEach list args places a w b (Ok v)
     unfolding push_each
     writing_done l = record { steps = λ k q. leads_done refl (passed_done (h.is k q) l).leads }
 
-    module _ (l : i < list.count) (small : length a ≤ 65535) where
-      module _ (k : TypesIn s list) (q : Arguments args places) where
+    module _ (l : i < list.types.count) (small : length a ≤ 65535) where
+      module _ (k : TypesIn list) (q : Arguments args places) where
         made : FirstFits (λ t. instantiate t q.subst) (length a) v (turn (h.is k q) l).first.type (turn (h.is k q) l).rest
         made = first_fits (turn (h.is k q) l).state.fit
 
-        abbrev room : Room s p args places 0 (length (take (length b - v) (drop v b)))
+        abbrev room : Room list.types.bytes.now p args places 0 (length (take (length b - v) (drop v b)))
         room = record {
           filling = record { from = (turn (h.is k q) l).first; list = q; bytes = encode made.type; is = filled_made (turn (h.is k q) l).first.type q.subst made.here };
           fits = omega (arith, made.fits, h.same, length-take-le (length b - v) (drop v b) (omega (arith, length-drop v b)));
         }
 
-        -- what the writer needs
-        pub writing_room : Room s p args places 0 (length (take (length b - v) (drop v b)))
-        writing_room = room
+      -- what the writer needs
+      pub writing_room : Arguments args places → Room list.types.bytes.now p args places 0 (length (take (length b - v) (drop v b)))
+      writing_room q = room (types_in list) q
 
       -- the writer was lent the free end
-      module _ {d : List ℕ} {r : Reached} (o : WroteAt s p args places (take (length b - v) (drop v b)) d r) where
-        module _ (k : TypesIn s list) (q : Arguments args places) where
+      module _ {d : List ℕ} {r : Reached} (o : WroteAt list.types.bytes.now p args places (take (length b - v) (drop v b)) d r) where
+        module _ (k : TypesIn list) (q : Arguments args places) where
           exact : r.end ≡ length (encode (made k q).type)
           exact = o.reached (room k q).filling
 
-          pub writing_fits : (v + (r.end + 2) ≤ length b) × (r.end ≤ 65535)
-          writing_fits = (omega (arith, exact, (made k q).fits, h.same), omega (arith, exact, (made k q).fits))
+          fits : (v + (r.end + 2) ≤ length b) × (r.end ≤ 65535)
+          fits = (omega (arith, exact, (made k q).fits, h.same), omega (arith, exact, (made k q).fits))
 
           -- its bytes were made an entry
           written : {c : List ℕ} → c ≡ spliced (put_mid v (length b - v) b d) (v + r.end) (le16 r.end) → c ≡ entered b v (encode (made k q).type)
-          written j = sealed b v (encode (made k q).type) exact writing_fits.0 (lent b (encode (made k q).type) v (o.is (room k q))) j
+          written j = sealed b v (encode (made k q).type) exact fits.0 (lent b (encode (made k q).type) v (o.is (room k q))) j
+
+        pub writing_fits : Arguments args places → (v + (r.end + 2) ≤ length b) × (r.end ≤ 65535)
+        writing_fits q = fits (types_in list) q
 
         pub writing_next :
-            TypesIn s list → Arguments args places → {c : List ℕ} {x : ℕ} → x ≡ v + (r.end + 2) →
-            c ≡ spliced (put_mid v (length b - v) b d) (v + r.end) (le16 r.end) → Writing a w s list args places c x r.next (i + 1)
-        writing_next k q {c} {x} n j =
-            let g : length c ≡ length b = ap length (written k q j) ∙ length_spliced b v _ (omega (arith, length_entry (encode (made k q).type), exact k q, (writing_fits k q).0)) in
+            Arguments args places → {c : List ℕ} {x : ℕ} → x ≡ v + (r.end + 2) →
+            c ≡ spliced (put_mid v (length b - v) b d) (v + r.end) (le16 r.end) → Writing a w list args places c x r.next (i + 1)
+        writing_next q {c} {x} n j =
+            let k = types_in list in
+            let g : length c ≡ length b = ap length (written k q j) ∙ length_spliced b v _ (omega (arith, length_entry (encode (made k q).type), exact k q, (fits k q).0)) in
             record {
               same = g ∙ h.same;
-              low = omega (arith, (writing_fits k q).0);
+              low = omega (arith, (fits k q).0);
               is = λ k q.
                   let t = turn (h.is k q) l in
                   let u = made k q in
                   let y : x ≡ v + (length (encode u.type) + 2) = omega (arith, exact k q) in
                   turn_next t (o.ends (room k q).filling) (record {
-                    leads = leads_on t.state.leads (write_each _ _ _ u.here ((push_entered (encode u.type) (exact k q) (writing_fits k q).0 n (written k q j)).steps u.type refl) (sym h.same) refl);
+                    leads = leads_on t.state.leads (write_each _ _ _ u.here ((push_entered (encode u.type) (exact k q) (fits k q).0 n (written k q j)).steps u.type refl) (sym h.same) refl);
                     fit = rw y u.others;
                   });
             }
 
 -- ── the two ──
 
-module _ {w : ℕ} {s : List ℕ} {list : TypeList} {args places : List ℕ} where
-  pub weighed_fit : {room v : ℕ} → WeighsEach room w s list args places (Ok v) → AllFit room w s list args places
+module _ {w : ℕ} {list : SignatureView} {args places : List ℕ} where
+  pub weighed_fit : {room v : ℕ} → WeighsEach room w list args places (Ok v) → AllFit room w list args places
   weighed_fit h = record { is = h.is }
 
   -- nothing is written where they don't fit
-  pub weighed_stuck : {a : List ℕ} {y : StatusCode} → WeighsEach (length a) w s list args places (Err y) → PushesEach s list args places a w a (Err y)
+  pub weighed_stuck : {a : List ℕ} {y : StatusCode} → WeighsEach (length a) w list args places (Err y) → PushesEach list args places a w a (Err y)
   weighed_stuck h = record { steps = λ p q. stuck_refused (h.is p q) }

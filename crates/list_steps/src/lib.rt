@@ -6,143 +6,137 @@
 ghost use Rattle.std.specs.Prelude.{reverse, ◌≤◌, length};
 ghost use Rattle.definitions.specs.Machine.{pop_one, pop_each};
 ghost use Rattle.definitions.specs.Places.{TypeAt};
+ghost use Rattle.definitions.specs.Result.{Result, ok};
+ghost use Rattle.definitions.specs.SignatureToken.{SignatureToken};
+ghost use Rattle.definitions.specs.Substitution.{instantiate};
 ghost use Rattle.definitions.specs.TypeSafety as step;
-ghost use Rattle.record_views.specs.Records.{TypesIn};
 ghost use Rattle.signature_token.specs.Same.{Spans};
 ghost use Rattle.type_places.specs.Arguments.{Arguments};
 ghost use Rattle.type_stack.specs.Held.{Stacked};
 ghost use Rattle.type_stack.specs.Stepping.{StepsTo};
 ghost use Rattle.unit_tables.specs.Compiled.{compiled};
-ghost use Rattle.list_steps.specs.Forms.{formed, FormComparedAt, PopsEach, PushesEach, InstantiatesEach};
+ghost use Rattle.list_steps.specs.Forms.{ComparedWith, PopsEach, PushesEach, InstantiatesEach};
 ghost use Rattle.list_steps.specs.Pushes.{AllFit, WeighsEach};
 
 use function_views::FunctionTypes;
-use record_views::TypeList;
-use signature_token::TypeRef;
+use signature_token::{SignatureView, TypeRef};
 use status::{PartialVMResult, StatusCode};
 use type_places::TypePlaces;
 use type_stack::Entry;
 use unit_tables::UnitView;
 
-// How a type of a list is taken: as it stands, or with the arguments in its parameters' places.
-#[derive(Clone, Copy)]
-pub enum Form {
-    Written,
-    Instantiated,
+// How a type of a list is taken, to be compared with an operand.
+pub trait Form {
+    // what is made of a type
+    ghost made: { Self → SignatureToken → Result SignatureToken };
+
+    fn compare(&self, area: &[u8], operand: Entry, ty: TypeRef) -> PartialVMResult<bool>
+        requires { Spans area.now operand.start operand.len }
+        ensures { ComparedWith (made self.now) area.now operand.start operand.len ty.entry.bytes.now ty.entry.at result };
 }
 
-// Compares the operand with the type.
-fn compare(
-    area: &[u8],
-    operand: Entry,
-    ty: TypeRef,
-    form: Form,
-    args: TypePlaces,
-) -> PartialVMResult<bool>
-    requires { Spans area.now operand.start operand.len }
-    ensures { FormComparedAt form area.now operand.start operand.len ty.entry.bytes.now ty.entry.at args.entry.bytes.now args.entry.places.now result }
-{
-    match form {
-        Form::Instantiated => {
-            let found = TypeRef {
-                bytes: area,
-                at: operand.start,
-            };
-            substitution_comparison::compare_instantiated(found, ty, args)
-        }
-        Form::Written => Ok(type_tests::same_type(area, operand.start, operand.len, ty)),
+// The types as they stand.
+pub struct Written;
+
+impl Form for Written {
+    ghost made = { λ form t. ok t };
+
+    fn compare(&self, area: &[u8], operand: Entry, ty: TypeRef) -> PartialVMResult<bool> {
+        Ok(type_tests::same_type(area, operand.start, operand.len, ty))
+    }
+}
+
+// The types with these arguments in their parameters' places.
+impl Form for TypePlaces<'_> {
+    ghost made = { λ args t. instantiate t args.stand.subst };
+
+    fn compare(&self, area: &[u8], operand: Entry, ty: TypeRef) -> PartialVMResult<bool> {
+        let found = TypeRef {
+            bytes: area,
+            at: operand.start,
+        };
+        substitution_comparison::compare_instantiated(found, ty, *self)
     }
 }
 
 // Pops one operand and compares it with the type.
-fn pop_one(
+fn pop_one<F: Form>(
     area: &[u8],
     weight: usize,
     ty: TypeRef,
-    form: Form,
-    args: TypePlaces,
+    form: &F,
     status: StatusCode,
 ) -> PartialVMResult<usize>
     requires { Stacked area.now weight }
-    ensures { (p : TypeAt ty.entry.bytes.now ty.entry.at) (q : Arguments args.entry.bytes.now args.entry.places.now) → StepsTo (pop_one status (formed form q.subst) p.type) area.now weight area.now result }
+    ensures { (p : TypeAt ty.entry.bytes.now ty.entry.at) → StepsTo (pop_one status (F.made form.now) p.type) area.now weight area.now result }
 {
     let top = type_stack::pop(area, weight)?;
-    if compare(area, top, ty, form, args)? {
+    if form.compare(area, top, ty)? {
         return Ok(top.start);
     }
     Err(status)
 }
 
 // Pops an operand for each of the types, the last first.
-fn pop_places(
+fn pop_places<F: Form>(
     area: &[u8],
     weight: usize,
     types: TypePlaces,
-    form: Form,
-    args: TypePlaces,
+    form: &F,
     status: StatusCode,
 ) -> PartialVMResult<usize>
     requires { Stacked area.now weight }
-    ensures { (p : Arguments types.entry.bytes.now types.entry.places.now) (q : Arguments args.entry.bytes.now args.entry.places.now) → StepsTo (pop_each status (formed form q.subst) (reverse p.subst)) area.now weight area.now result }
+    ensures { (p : Arguments types.entry.bytes.now types.entry.places.now) → StepsTo (pop_each status (F.made form.now) (reverse p.subst)) area.now weight area.now result }
 {
     let mut below = weight;
     for i in (0..types.places.len()).rev() {
         let ty = types.get(i).unwrap();
-        below = pop_one(area, below, ty, form, args, status)?;
+        below = pop_one(area, below, ty, form, status)?;
     }
     Ok(below)
 }
 
 // The work of `pop_each`: `places` has room for the places of the list's types.
-fn pop_with(
+fn pop_with<F: Form>(
     area: &[u8],
     weight: usize,
-    s: &[u8],
-    list: TypeList,
-    form: Form,
-    args: TypePlaces,
+    list: SignatureView,
+    form: &F,
     status: StatusCode,
     places: &mut [u16],
 ) -> PartialVMResult<usize>
     requires stacked { Stacked area.now weight }
-    requires types_in { TypesIn s.now list × (length s.now ≤ 65535) }
-    requires count_in_bounds { list.count ≤ length places.old }
-    ensures { PopsEach form s.now list args.entry.bytes.now args.entry.places.now status area.now weight result }
+    requires short { length list.types.bytes.now ≤ 65535 }
+    requires count_in_bounds { list.types.count ≤ length places.old }
+    ensures { PopsEach (F.made form.now) list.entry status area.now weight result }
 {
-    let types = signature_token::TypeList {
-        bytes: s,
-        at: list.at,
-        count: list.count,
-    };
-    let placed = type_places::placed(types, places);
-    pop_places(area, weight, placed, form, args, status)
+    let placed = type_places::placed(list.types, places);
+    pop_places(area, weight, placed, form, status)
 }
 
 // Pops an operand for each type of the list, the last first, and compares it with that type. The status is that of a mismatch. A table of
-// places is zeroed before it is filled, so a short list, as most are, takes a short table, and an empty one none.
-pub fn pop_each(
+// places is zeroed before it is filled, so a short list, as most are, takes a short table, and an empty one none; an array, since no heap is used.
+pub fn pop_each<F: Form>(
     area: &[u8],
     weight: usize,
-    s: &[u8],
-    list: TypeList,
-    form: Form,
-    args: TypePlaces,
+    list: SignatureView,
+    form: &F,
     status: StatusCode,
 ) -> PartialVMResult<usize>
     requires stacked { Stacked area.now weight }
-    requires types_in { TypesIn s.now list × (length s.now ≤ 65535) }
-    ensures { PopsEach form s.now list args.entry.bytes.now args.entry.places.now status area.now weight result }
+    requires short { length list.types.bytes.now ≤ 65535 }
+    ensures { PopsEach (F.made form.now) list.entry status area.now weight result }
 {
-    let n = list.count;
+    let n = list.types.count;
     if n == 0 {
         return Ok(weight);
     }
     if n <= 16 {
         let mut few = [0u16; 16];
-        return pop_with(area, weight, s, list, form, args, status, &mut few);
+        return pop_with(area, weight, list, form, status, &mut few);
     }
     let mut places = [0u16; 255];
-    pop_with(area, weight, s, list, form, args, status, &mut places)
+    pop_with(area, weight, list, form, status, &mut places)
 }
 
 // `Ret`.
@@ -152,34 +146,16 @@ pub fn ret_step(area: &[u8], weight: usize, unit: &UnitView<'_>) -> PartialVMRes
 {
     let returns = function_views::function_types(unit, FunctionTypes::Return);
     let status = StatusCode::RET_TYPE_MISMATCH_ERROR;
-    let args = TypePlaces {
-        bytes: unit.bytes,
-        places: &[],
-    };
-    let popped = pop_each(
-        area,
-        weight,
-        unit.bytes,
-        returns,
-        Form::Written,
-        args,
-        status,
-    );
+    let popped = pop_each(area, weight, returns, &Written, status);
     type_stack::rebuilt(popped)
 }
 
 // Whether `instantiate` makes a type of each of the list; if not, its refusal.
 #[tactic(auto, using(crate::specs::Made::sizes))]
-pub fn instantiates_each(s: &[u8], list: TypeList, args: TypePlaces) -> PartialVMResult<()>
-    requires { TypesIn s.now list }
-    ensures { InstantiatesEach s.now list args.entry.bytes.now args.entry.places.now result }
+pub fn instantiates_each(list: SignatureView, args: TypePlaces) -> PartialVMResult<()>
+    ensures { InstantiatesEach list.entry args.entry.bytes.now args.entry.places.now result }
 {
-    let types = signature_token::TypeList {
-        bytes: s,
-        at: list.at,
-        count: list.count,
-    };
-    substitution::instantiated_sizes(types, args)?;
+    substitution::instantiated_sizes(list.types, args)?;
     Ok(())
 }
 
@@ -188,18 +164,17 @@ pub fn instantiates_each(s: &[u8], list: TypeList, args: TypePlaces) -> PartialV
 fn weigh_each(
     room: usize,
     weight: usize,
-    s: &[u8],
-    list: TypeList,
+    list: SignatureView,
     args: TypePlaces,
 ) -> PartialVMResult<usize>
-    requires weight_le_room { (weight ≤ room) × (room ≤ 65535) }
-    requires types_in { TypesIn s.now list }
-    ensures { WeighsEach room weight s.now list args.entry.bytes.now args.entry.places.now result }
+    requires { (weight ≤ room) × (room ≤ 65535) }
+    ensures { WeighsEach room weight list.entry args.entry.bytes.now args.entry.places.now result }
 {
+    let bytes = list.types.bytes;
     let mut after = weight;
-    let mut at = list.at;
-    for _ in 0..list.count {
-        let size = substitution::instantiated_size(TypeRef { bytes: s, at }, args)?;
+    let mut at = list.types.at;
+    for _ in 0..list.types.count {
+        let size = substitution::instantiated_size(TypeRef { bytes, at }, args)?;
         if room - after < size.len + 2 {
             return Err(StatusCode::NO_ROOM);
         }
@@ -210,15 +185,16 @@ fn weigh_each(
 }
 
 // Writes the entries of the list's types, their parameters replaced, for which there is room. Answers the weight after them.
-fn write_each(area: &mut [u8], weight: usize, s: &[u8], list: TypeList, args: TypePlaces) -> usize
+fn write_each(area: &mut [u8], weight: usize, list: SignatureView, args: TypePlaces) -> usize
     requires stacked { Stacked area.old weight }
-    requires types_in { TypesIn s.now list × AllFit (length area.old) weight s.now list args.bytes.now args.places.now }
-    ensures { PushesEach s.now list args.entry.bytes.now args.entry.places.now area.old weight area.new (Ok result) }
+    requires all_fit { AllFit (length area.old) weight list args.bytes.now args.places.now }
+    ensures { PushesEach list.entry args.entry.bytes.now args.entry.places.now area.old weight area.new (Ok result) }
 {
+    let bytes = list.types.bytes;
     let mut after = weight;
-    let mut at = list.at;
-    for _ in 0..list.count {
-        let ty = TypeRef { bytes: s, at };
+    let mut at = list.types.at;
+    for _ in 0..list.types.count {
+        let ty = TypeRef { bytes, at };
         let written = substitution_writer::instantiate_into(&mut area[after..], ty, args);
         after = type_pushes::seal(area, after, written.end);
         at = written.next;
@@ -230,14 +206,12 @@ fn write_each(area: &mut [u8], weight: usize, s: &[u8], list: TypeList, args: Ty
 pub fn push_each(
     area: &mut [u8],
     weight: usize,
-    s: &[u8],
-    list: TypeList,
+    list: SignatureView,
     args: TypePlaces,
 ) -> PartialVMResult<usize>
-    requires stacked { Stacked area.old weight }
-    requires types_in { TypesIn s.now list }
-    ensures { PushesEach s.now list args.entry.bytes.now args.entry.places.now area.old weight area.new result }
+    requires { Stacked area.old weight }
+    ensures { PushesEach list.entry args.entry.bytes.now args.entry.places.now area.old weight area.new result }
 {
-    weigh_each(area.len(), weight, s, list, args)?;
-    Ok(write_each(area, weight, s, list, args))
+    weigh_each(area.len(), weight, list, args)?;
+    Ok(write_each(area, weight, list, args))
 }

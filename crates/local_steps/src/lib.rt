@@ -23,12 +23,8 @@ pub fn ld_const(
     requires { Stacked area.old weight }
     ensures { StepsTo (step.ld_const (compiled unit.now) idx.0) area.old weight area.new result }
 {
-    let at = unit_views::constant_at(unit, idx)?;
-    let constant = TypeRef {
-        bytes: unit.bytes,
-        at,
-    };
-    copied_pushes::push_part(area, weight, &unit.bytes[at..constant.end()])
+    let constant = unit_views::constant_at(unit, idx)?;
+    copied_pushes::push_part(area, weight, &constant.bytes[constant.at..constant.end()])
 }
 
 // `CopyLoc`.

@@ -16,7 +16,7 @@ use Rattle.definitions.specs.CompiledUnit as defs
 use Rattle.definitions.specs.Places.{At, TypeAt, EndOfType}
 use Rattle.theorems.specs.Bytes.{list_of_arguments, one_type}
 use Rattle.type_places.specs.Places.{Consecutive, PlacesAt}
-use Rattle.record_views.specs.declared.TypeList.{TypeList}
+use Rattle.signature_token.specs.declared.SignatureView.{SignatureView}
 use Rattle.record_views.specs.Records.{ListIs}
 use Rattle.record_views.specs.Reread.{types_at}
 use Rattle.signature_token.specs.Ends.{type_room}
@@ -89,22 +89,31 @@ bounds_past Consecutive.none i h = record { is = refl }
 bounds_past (Consecutive.more k l r) zero h = absurd (omega arith)
 bounds_past (Consecutive.more k l r) (suc i) h = bounds_past r i (omega arith)
 
--- a walk along a list has found its places, and where the last type ends is written behind them
-module _ {s : List ℕ} {ts : Signature} {types : TypeList} (q : ListIs s ts types) {out : List ℕ} where
-  pub no_places : types.count ≡ 0 → 0 < length out → PlacesIn s ts out 1
-  no_places e h = record { fits = omega arith; consecutive = go ts out (omega (arith, q.counted)) h }
-    where
-      go : (us : Signature) (l : List ℕ) → length us ≡ 0 → 0 < length l → Consecutive s (take 1 l) us
-      go [] [] d m = absurd (omega arith)
-      go [] (x ∷ l) d m = Consecutive.none
-      go (t ∷ us) l d m = absurd (omega arith)
+-- a unit's bytes are few
+pub unit_room : (unit : UnitView) → length unit.bytes.now ≤ 65535
+unit_room unit = omega (arith, unit_short (unit_read unit))
 
-  pub places_in :
-      {e : ℕ} → PlacesAt s types.at types.count out e → types.count < length out → PlacesIn s ts (set out types.count e) (types.count + 1)
-  places_in {e} p h = record {
-    fits = omega (arith, length-set out types.count e);
-    consecutive = rw (add-one types.count, take-suc-set out types.count e h) (rw (list_of_arguments ts) at (p.consecutive (types_at (record { types = ts; are = q }))));
-  }
+-- of no types there is one entry, which is anything
+pub no_places : {s out : List ℕ} {ts : Signature} → length ts ≡ 0 → 0 < length out → PlacesIn s ts out 1
+no_places {s} {out} {ts} e h = record { fits = omega arith; consecutive = go ts out e h }
+  where
+    go : (us : Signature) (l : List ℕ) → length us ≡ 0 → 0 < length l → Consecutive s (take 1 l) us
+    go [] [] d m = absurd (omega arith)
+    go [] (x ∷ l) d m = Consecutive.none
+    go (t ∷ us) l d m = absurd (omega arith)
+
+-- a walk along a list has found its places, and where the last type ends is written behind them
+pub places_in :
+    {s out : List ℕ} {ts : Signature} {list : SignatureView} {e : ℕ} → ListIs ts list → PlacesAt list.types.bytes.now list.types.at list.types.count out e →
+    list.types.bytes.now ≡ s → list.types.count < length out → PlacesIn s ts (set out list.types.count e) (list.types.count + 1)
+places_in {out = out} {ts} {list} {e} q p k h =
+    let n = list.types.count in
+    record {
+      fits = omega (arith, length-set out n e);
+      consecutive = rw (add-one n, take-suc-set out n e h, ← k) (rw (list_of_arguments ts) at (p.consecutive (types_at (record { types = ts; are = q }))));
+    }
+
+pub ruleset listed_laws = (no_places, unit_room)
 
 -- THE LOOK-UP BY PLACES IS `local_at`
 module _ {s parameters locals : List ℕ} (u : defs.CompiledUnit) (k : LocalPlaces s u.function parameters locals) (i : ℕ) where
@@ -150,7 +159,7 @@ local_here {t = t} l = record { type = t; stands = l.stands }
 
 -- a part of a unit's bytes is short
 pub unit_part : (unit : UnitView) (n from : ℕ) → length (take n (drop from unit.bytes.now)) ≤ 65535
-unit_part unit n from = omega (arith, length-take n (drop from unit.bytes.now), length-drop from unit.bytes.now, unit_short (unit_read unit))
+unit_part unit n from = omega (arith, length-take n (drop from unit.bytes.now), length-drop from unit.bytes.now, unit_room unit)
 
 -- what the calls on it require
 pub ruleset local_rooms = (local_stands, local_order, local_within, unit_part)

@@ -62,6 +62,7 @@ pub fn place_of(parameters: &[u16], locals: &[u16], idx: LocalIndex) -> PartialV
 
 impl Locals<'_> {
     // `Locals::local_at`.
+    #[tactic(auto, using(crate::specs::Locals::local_type))]
     pub fn local_at(&self, idx: LocalIndex) -> PartialVMResult<LocalType>
         ensures { ResultIs (LocalIs self.now.unit.bytes.now) (defs.local_at (compiled self.now.unit) idx.0) result }
     {
@@ -71,21 +72,17 @@ impl Locals<'_> {
 
 // The places of the types of one of the function's lists and the end of the last one, to the front of out. Answers how many entries there
 // are. The end of a list of no types is anything.
+#[tactic(auto, using(crate::specs::Locals::listed_laws))]
 pub fn places(unit: &UnitView<'_>, which: FunctionTypes, out: &mut [u16]) -> usize
     requires { 256 ≤ length out.old }
     ensures { PlacesIn unit.now.bytes.now (types_of which (compiled unit.now).function) out.new result }
 {
-    let types = function_views::function_types(unit, which);
-    let n = types.count;
+    let signature = function_views::function_types(unit, which);
+    let n = signature.types.count;
     if n == 0 {
         return 1;
     }
-    let list = signature_token::TypeList {
-        bytes: unit.bytes,
-        at: types.at,
-        count: n,
-    };
-    let end = type_places::type_places(list, out);
-    out[n] = end as u16;
+    let end = type_places::type_places(signature.types, out);
+    out[n] = end as u16; // fits, which is proved: `TryFrom` would ask at run time
     n + 1
 }

@@ -1,14 +1,15 @@
 -- The laws of a struct with its arguments: its bytes, its writer and its comparison.
-use Rattle.std.specs.Prelude.{◌≡◌, refl, List, [], ◌∷◌, ◌++◌, Bool, true, false, ℕ, zero, suc, ◌+◌, ◌-◌, ◌/◌, ◌%◌, ◌≤◌, length, take, drop}
+use Rattle.std.specs.Prelude.{◌≡◌, refl, List, [], ◌∷◌, ◌++◌, Bool, true, false, ℕ, zero, suc, ◌+◌, ◌-◌, ◌/◌, ◌%◌, ◌≤◌, length, take, drop, eqb}
+use Rattle.std.specs.List.{starts_with}
 use Rattle.std.proofs.Common.{sym, ap, ◌∙◌, append_assoc, drop-drop, arith, length-append, length-take-le}
 use Rattle.std.proofs.lemmas.List.{take_at, drop_at}
 use Rattle.definitions.specs.SignatureToken.{SignatureToken, SignatureTokens, []ᵗ, ◌∷ᵗ◌, arguments, count, encode, encode_all, same}
 use Rattle.definitions.specs.Substitution.{materialize_type}
-use Rattle.definitions.specs.Places.{At}
+use Rattle.definitions.specs.Places.{At, TypesAt}
 use Rattle.theorems.specs.AtLaws.{at_room, at_front, at_back}
 use Rattle.theorems.specs.Bytes.{list_of, arguments_list_of, one_type}
 use Rattle.signature_token.specs.Same.{Spans, same_yes, same_no}
-use Rattle.substitution.specs.Bytes.{over, Tells, at_append}
+use Rattle.substitution.specs.Bytes.{over, Tells, start_told, at_append}
 use Rattle.materialize_type.specs.declared.MaterializedType.{MaterializedType}
 use Rattle.materialize_type.specs.Materialized.{type_of}
 use Rattle.materialize_type.specs.Materialize.{command_bytes, command_length, IsCommand, IsLength, materialized}
@@ -40,7 +41,7 @@ unfolding command_length
 command_short zero = omega arith
 command_short (suc n) = omega arith
 
-pub length_short : {n k : ℕ} → IsLength n k → k ≤ 4
+length_short : {n k : ℕ} → IsLength n k → k ≤ 4
 length_short {n} e = omega (arith, e.is, command_short n)
 
 command_four : (h n : ℕ) → length (command_bytes h n) ≡ 4
@@ -54,26 +55,32 @@ materialized_bytes h []ᵗ = refl
 materialized_bytes h (t ∷ᵗ ts) =
     ap (λ (us : SignatureTokens). 0x09 ∷ h % 256 ∷ h / 256 ∷ suc (count us) ∷ (encode t ++ encode_all us)) (arguments_list_of ts)
 
-head_long : (h n : ℕ) → length (take (command_length n) (command_bytes h n)) ≡ command_length n
-head_long h n = length-take-le (command_length n) (command_bytes h n) (omega (arith, command_short n, command_four h n))
+front_long : (h n : ℕ) → length (take (command_length n) (command_bytes h n)) ≡ command_length n
+front_long h n = length-take-le (command_length n) (command_bytes h n) (omega (arith, command_short n, command_four h n))
 
-pub size_is : (h : ℕ) (ts : SignatureTokens) {n k : ℕ} → count ts ≡ n → IsLength n k → k + length (encode_all ts) ≡ length (encode (materialized h ts))
-size_is h ts {n} c f =
+pub size_is :
+    (h : ℕ) (ts : SignatureTokens) {n k : ℕ} {bs : List ℕ} → count ts ≡ n → IsLength n k → bs ≡ encode_all ts → k + length bs ≡ length (encode (materialized h ts))
+size_is h ts {n} c f is =
     let m = count ts in
     omega (
       arith,
       ap length (materialized_bytes h ts),
       length-append (take (command_length m) (command_bytes h m)) (encode_all ts),
-      head_long h m,
+      front_long h m,
       f.is,
       ap command_length c,
+      ap length is,
     )
 
 -- it has little more than its arguments
-pub made_short : (m : MaterializedType) → length (encode (type_of m)) ≤ 4 + length m.type_args.bytes.now
+pub made_short : (m : MaterializedType) → length (encode (type_of m)) ≤ 4 + length m.type_args.types.bytes.now
 made_short m =
-    let q = m.type_args.stand in
-    omega (arith, size_is m.struct_handle.0 q.types refl (record { is = refl }), command_short (count q.types), at_room q.stands)
+    let q = m.type_args.types.stand in
+    omega (arith, size_is m.struct_handle.0 q.types refl (record { is = refl }) refl, command_short (count q.types), at_room q.stands)
+
+-- and so its size is a number
+pub room_made : {s : List ℕ} {at n m k : ℕ} {bs : List ℕ} (q : TypesAt s at n) → IsLength m k → bs ≡ encode_all q.types → k + length bs ≤ 4 + length s
+room_made q f is = omega (arith, length_short f, at_room q.stands, ap length is)
 
 -- bs written over the front of d, and cs behind it
 two_parts : (d bs cs : List ℕ) {k : ℕ} → length bs ≡ k →
@@ -87,6 +94,9 @@ two_parts d bs cs {k} e =
 module _ {h n : ℕ} {b : List ℕ} {k : ℕ} (e : IsCommand h n b) (f : IsLength n k) where
   pub command_there : k ≤ length b
   command_there = omega (arith, command_short n, command_four h n, ap length e.is, f.is)
+
+  pub head_long : k ≡ length (take k b)
+  head_long = sym (length-take-le k b command_there)
 
   pub laid : (ts : SignatureTokens) → count ts ≡ n → encode (materialized h ts) ≡ take k b ++ encode_all ts
   laid ts c = materialized_bytes h ts ∙ rw (c, e.is, f.is)
@@ -106,24 +116,36 @@ module _ {h n : ℕ} {b : List ℕ} {k : ℕ} (e : IsCommand h n b) (f : IsLengt
     laid_at : (p : Spans s x len) → p.type ≡ materialized h ts → At s x (take k b ++ encode_all ts)
     laid_at p q = rw (← laid ts c, ← q) p.stands
 
-    pub command_differs : Tells false (At s x (take k b)) → (p : Spans s x len) → false ≡ same p.type (materialized h ts)
-    command_differs d p = sym (same_no p.type (materialized h ts) (λ q. d (at_front (take k b) (encode_all ts) (laid_at p q))))
+    pub command_differs :
+        {r : Bool} → r ≡ starts_with eqb (take (length s - x) (drop x s)) (take k b) → r ≡ false → (p : Spans s x len) → r ≡ same p.type (materialized h ts)
+    command_differs told e p =
+        let d : Tells false (At s x (take k b)) = start_told s x (take k b) false (rw e at told) in
+        e ∙ sym (same_no p.type (materialized h ts) (λ q. d (at_front (take k b) (encode_all ts) (laid_at p q))))
 
-    pub arguments_compared : (r : Bool) → Tells true (At s x (take k b)) → Tells r (At s (x + k) (encode_all ts)) → (p : Spans s x len) → r ≡ same p.type (materialized h ts)
-    arguments_compared true d v p =
+    compared : (r : Bool) → Tells true (At s x (take k b)) → Tells r (At s (x + k) (encode_all ts)) → (p : Spans s x len) → r ≡ same p.type (materialized h ts)
+    compared true d v p =
         let z = length-take-le k b command_there in
         let w : x + k ≡ x + length (take k b) = omega arith in
         let a : At s x (encode (materialized h ts)) = rw (laid ts c) (at_append (take k b) (encode_all ts) d (rw w at v)) in
         sym (same_yes p.type (materialized h ts) (one_type p.type (materialized h ts) p.stands a))
-    arguments_compared false d v p =
+    compared false d v p =
         let z = length-take-le k b command_there in
         let w : x + k ≡ x + length (take k b) = omega arith in
         sym (same_no p.type (materialized h ts) (λ q. v (rw w (at_back (take k b) (encode_all ts) (laid_at p q)))))
 
+    pub arguments_compared :
+        {q r : Bool} {bs : List ℕ} → q ≡ starts_with eqb (take (length s - x) (drop x s)) (take k b) → q ≡ true → bs ≡ encode_all ts →
+        r ≡ starts_with eqb (take (length s - (x + k)) (drop (x + k) s)) bs → (p : Spans s x len) → r ≡ same p.type (materialized h ts)
+    arguments_compared {r = r} told e is rest =
+        compared r (start_told s x (take k b) true (rw e at told)) (start_told s (x + k) (encode_all ts) r (rw is at rest))
+
 -- another length
 pub length_differs :
-    (h : ℕ) (ts : SignatureTokens) {n k : ℕ} {s : List ℕ} {x len : ℕ} → count ts ≡ n → IsLength n k → (len ≡ k + length (encode_all ts) → ⊥) →
+    (h : ℕ) (ts : SignatureTokens) {n k : ℕ} {bs s : List ℕ} {x len : ℕ} → count ts ≡ n → IsLength n k → bs ≡ encode_all ts → (len ≡ k + length bs → ⊥) →
     (p : Spans s x len) → false ≡ same p.type (materialized h ts)
-length_differs h ts c f d p =
+length_differs h ts c f is d p =
     sym (same_no p.type (materialized h ts) (λ q.
-    d (omega (arith, p.long, size_is h ts c f, ap (λ (t : SignatureToken). length (encode t)) q))))
+    d (omega (arith, p.long, size_is h ts c f is, ap (λ (t : SignatureToken). length (encode t)) q))))
+
+-- the part of the command that counts
+pub ruleset head = (command_there, head_long)

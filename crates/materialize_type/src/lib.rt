@@ -10,90 +10,96 @@ ghost use Rattle.substitution.specs.Bytes.{over};
 ghost use Rattle.materialize_type.specs.Materialize.{IsCommand, IsLength, materialized, EndOfTypes-prop};
 
 use file_format::StructHandleIndex;
-use signature_token::TypeList;
+use signature_token::SignatureView;
 
-// The command of a struct with n arguments and its operands. Where there are none the last byte does not count.
+// The command of a struct with n arguments and its operands. Where there are none the last byte does not count. That n fits a byte is proved.
+#[tactic(auto, using(crate::proofs::Materialize::command_none, crate::proofs::Materialize::command_some))]
 fn struct_command(h: StructHandleIndex, n: usize) -> [u8; 4]
     requires { n < 256 }
     ensures { IsCommand h.0 n result }
 {
-    let index = h.0;
+    let [low, high] = h.0.to_le_bytes();
     let command = if n == 0 { 8 } else { 9 };
-    [command, (index % 256) as u8, (index / 256) as u8, n as u8]
+    [command, low, high, n as u8]
 }
 
+#[tactic(auto, using(crate::proofs::Materialize::length_none, crate::proofs::Materialize::length_some))]
 fn command_length(n: usize) -> usize
     ensures { IsLength n result }
 {
     if n == 0 { 3 } else { 4 }
 }
 
-// A struct with its type arguments, at most 255. Where they end is kept, since it is asked more than once and found by a walk.
+// A struct with its type arguments. Where they end is kept, since it is asked more than once and found by a walk.
 #[derive(Clone, Copy)]
 pub struct MaterializedType<'a> {
     pub struct_handle: StructHandleIndex,
-    pub type_args: TypeList<'a>,
+    pub type_args: SignatureView<'a>,
     end: usize,
-    ghost ends: { EndOfTypes type_args.bytes.now type_args.at type_args.count end } by { EndOfTypes-prop type_args.bytes.now type_args.at type_args.count end },
-    ghost few: { type_args.count < 256 },
+    ghost ends: { EndOfTypes type_args.types.bytes.now type_args.types.at type_args.types.count end } by { EndOfTypes-prop type_args.types.bytes.now type_args.types.at type_args.types.count end },
 }
 
 impl<'a> MaterializedType<'a> {
     ghost use Rattle.materialize_type.specs.Materialized.{type_of};
 
     // `materialize_type`.
-    pub fn new(struct_handle: StructHandleIndex, type_args: TypeList<'a>) -> MaterializedType<'a>
-        requires { type_args.count < 256 }
-        ensures made { (q : TypesAt type_args.entry.bytes.now type_args.entry.at type_args.entry.count) → type_of result ≡ materialized struct_handle.0 q.types }
-        ensures bytes { result.type_args.bytes.now ≡ type_args.entry.bytes.now }
+    pub fn new(
+        struct_handle: StructHandleIndex,
+        type_args: SignatureView<'a>,
+    ) -> MaterializedType<'a>
+        ensures made { (q : TypesAt type_args.entry.types.bytes.now type_args.entry.types.at type_args.entry.types.count) → type_of result ≡ materialized struct_handle.0 q.types }
+        ensures bytes { result.type_args.types.bytes.now ≡ type_args.entry.types.bytes.now }
     {
         MaterializedType {
             struct_handle,
             type_args,
-            end: type_args.end(),
+            end: type_args.types.end(),
         }
     }
 
     // The bytes of its arguments. Where there are none, nothing says that their place is within the bytes.
     fn arguments(self) -> &'a [u8]
-        ensures { result.now ≡ encode_all self.entry.type_args.stand.types }
+        ensures { result.now ≡ encode_all self.entry.type_args.types.stand.types }
     {
-        if self.type_args.count == 0 {
+        if self.type_args.types.count == 0 {
             return &[];
         }
-        &self.type_args.bytes[self.type_args.at..self.end]
+        &self.type_args.types.bytes[self.type_args.types.at..self.end]
     }
 
     // How many bytes it has.
+    #[tactic(auto, using(crate::proofs::Materialize::size_is))]
     pub fn size(self) -> usize
         ensures { result ≡ length (encode (type_of self.entry)) }
     {
-        command_length(self.type_args.count) + self.arguments().len()
+        command_length(self.type_args.types.count) + self.arguments().len()
     }
 
     // Writes it to the front of out.
+    #[tactic(auto, using(crate::proofs::Materialize::head))]
     pub fn write_to(self, out: &mut [u8])
         requires { length (encode (type_of self)) ≤ length out.old }
         ensures { out.new ≡ over (encode (type_of self.entry)) out.old }
     {
-        let command = struct_command(self.struct_handle, self.type_args.count);
-        let k = command_length(self.type_args.count);
+        let command = struct_command(self.struct_handle, self.type_args.types.count);
+        let k = command_length(self.type_args.types.count);
         let args = self.arguments();
         out[..k].copy_from_slice(&command[..k]);
         out[k..k + args.len()].copy_from_slice(args);
     }
 
     // `==`: whether it is the type of len bytes at x of s. Lengths first, since most that differ differ there.
+    #[tactic(auto, using(crate::proofs::Materialize::head))]
     pub fn is_at(self, s: &[u8], x: usize, len: usize) -> bool
         requires { Spans s.now x len }
         ensures { (p : Spans s.now x len) → result ≡ same p.type (type_of self.entry) }
     {
-        let k = command_length(self.type_args.count);
+        let k = command_length(self.type_args.types.count);
         let args = self.arguments();
         if len != k + args.len() {
             return false;
         }
-        let command = struct_command(self.struct_handle, self.type_args.count);
+        let command = struct_command(self.struct_handle, self.type_args.types.count);
         s[x..].starts_with(&command[..k]) && s[x + k..].starts_with(args)
     }
 }

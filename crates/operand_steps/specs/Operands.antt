@@ -82,6 +82,9 @@ module _ {a : List ℕ} {w : ℕ} {x y : Entry} (k : Stacked a w) (p : TopTwoOf 
   pub second_type : TypeAt a y.start
   second_type = operand (topped_two k p).1.here
 
+  pub second_span : Spans a y.start y.len
+  second_span = span (topped_two k p).1.here
+
   pub second_under : Stacked a y.start
   second_under = (topped_two k p).1.under
 
@@ -90,7 +93,7 @@ module _ {a : List ℕ} {w : ℕ} {x y : Entry} (k : Stacked a w) (p : TopTwoOf 
   push_second {t} h e = push_stands t first_under (topped_two k p).1 (rw e h.at)
 
 -- what the calls on operands require: `search` finds the pop among what was learnt
-pub ruleset operands = (top_type, top_span, top_under, first_span, first_type, first_under, second_type, second_under)
+pub ruleset operands = (top_type, top_span, top_under, top_room, first_span, first_type, first_under, second_type, second_span, second_under)
 
 -- ── two tests in a row, r of x and then q of y ──
 
@@ -147,7 +150,7 @@ module _ {mut : Bool} {a : List ℕ} {x l : ℕ} {t : SignatureToken} {y : ℕ} 
       let f = n.long in
       (omega arith, record { order = omega arith; within = omega arith; short = k.small }, r)
 
--- the three answers of `referent_at`
+-- the three answers of `referent_of`
 data View (x : ℕ) (t : SignatureToken) : Type 0 where
   as_reference : (u : SignatureToken) → referent_of (token_of t x) ≡ Reference (x + 1) → t ≡ ReferenceOf u → View x t
   as_mutable : (u : SignatureToken) → referent_of (token_of t x) ≡ MutableReference (x + 1) → t ≡ MutableReferenceOf u → View x t

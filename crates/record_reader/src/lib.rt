@@ -1,6 +1,6 @@
 // One record's body or one type, read from bytes of which nothing is known. Each function answers what the reader of the definitions answers
 // at that position, for every input: where the next byte is, or the refusal and its byte. The value that stands there is not kept: what a
-// pass needs of it is read again at its place.
+// pass needs of it is read again at its place. The bytes and the position are two parameters: nothing holds of them that a value could keep.
 #![tactic(auto)]
 
 ghost use Rattle.std.specs.Prelude.{◌≡◌, ◌+◌, ◌≤◌, ◌<◌, List, length, get_or, IfOk, MatchResult};
@@ -24,7 +24,8 @@ pub struct ReadError {
     pub at: usize,
 }
 
-// What follows a type's command: nothing, a type, a u16, or a u16 with a list of types.
+// What follows a type's command: nothing, a type, a u16, or a u16 with a list of types; or the byte is no command. Not `Shape` of signature_token,
+// which has no byte that opens nothing, and tells a vector from references.
 #[derive(Clone, Copy)]
 enum TypeShape {
     Leaf,
@@ -96,7 +97,8 @@ fn type_shape(command: u8) -> TypeShape
 }
 
 // Where the type at `at` ends, if it is plain or one command stands around a plain one; None where that is not found out here: the unit may
-// end inside such a type, or too few levels be allowed. Which of these types it is decides nothing but what is added.
+// end inside such a type, or too few levels be allowed. Which of these types it is decides nothing but what is added. `plain_end` of TypeRef tests
+// neither, since its type stands there.
 #[tactic(auto, using(crate::proofs::Types::plain_read))]
 fn plain_end(s: &[u8], at: usize, levels: u8) -> Option<usize>
     ensures { PlainEnd s.now at levels result }
@@ -203,7 +205,8 @@ fn read_byte_up_to(s: &[u8], at: usize, most: u8) -> Result<usize, ReadError>
     Ok(at + 1)
 }
 
-// u8 count, and that many bytes of at most `most`.
+// u8 count, and that many bytes of at most `most`. Not one function with `read_types_within` over what is read: that one is in a cycle of calls,
+// whose measures are given function by function.
 #[tactic(auto, using(crate::specs::Walk::counting))]
 fn read_bytes_up_to(s: &[u8], at: usize, most: u8) -> Result<usize, ReadError>
     ensures { result ≡ read_to (counted (byte_up_to most) s.now at) }

@@ -7,39 +7,46 @@ use Rattle.definitions.specs.Commands.{InstructionForm, plain, unkept, local, co
 use Rattle.definitions.specs.Reading.{read}
 use Rattle.definitions.specs.Reader as reader
 use Rattle.definitions.specs.Places.{At, RecordAt}
-use Rattle.record_views.specs.declared.TypeList.{TypeList}
+use Rattle.signature_token.specs.declared.SignatureView.{SignatureView}
 use Rattle.record_views.specs.declared.Fields.{Fields}
 use Rattle.record_views.specs.declared.StructDef.{StructDef}
 use Rattle.record_views.specs.declared.Instruction.{Instruction}
 
 -- ── lists of types ──
 
--- the types ts stand one after the other where the list says
-pub record ListIs (s : List ℕ) (ts : Signature) (r : TypeList) : Type 0 where
-  pub counted : r.count ≡ length ts
-  pub small : r.count < 256
-  pub stands : At s r.at (encode_all (arguments ts))
+-- the types ts are those of the list
+pub record ListIs (ts : Signature) (r : SignatureView) : Type 0 where
+  pub counted : r.types.count ≡ length ts
+  pub stands : At r.types.bytes.now r.types.at (encode_all (arguments ts))
 
--- some types stand where the list says
-pub record TypesIn (s : List ℕ) (r : TypeList) : Type 0 where
+-- the types of the list, as the definitions have them
+pub record TypesIn (r : SignatureView) : Type 0 where
   pub types : Signature
-  pub are : ListIs s types r
+  pub are : ListIs types r
 
--- whatever list was read at `at`
-abbrev pub ListAt : List ℕ → ℕ → TypeList → Type 0
-ListAt s at r = (head : defs.Head) (ts : Signature) (e : ℕ) → reader.types (commands_of head) s at ≡ read ts e → ListIs s ts r
+-- some types were read at `at`, behind their count
+pub record ListHere (s : List ℕ) (at : ℕ) : Type 0 where
+  pub head : defs.Head
+  pub types : Signature
+  pub ends : ℕ
+  pub reads : reader.types (commands_of head) s at ≡ read types ends
 
 -- ── struct definitions ──
 
-abbrev pub FieldsAre : List ℕ → defs.StructFieldInformation → Fields → Type 0
-FieldsAre s defs.Native Fields.Native = Unit {0}
-FieldsAre s defs.Native (Fields.Declared l) = ⊥
-FieldsAre s (defs.Declared ts) Fields.Native = ⊥
-FieldsAre s (defs.Declared ts) (Fields.Declared l) = ListIs s ts l
+abbrev pub FieldsAre : defs.StructFieldInformation → Fields → Type 0
+FieldsAre defs.Native Fields.Native = Unit {0}
+FieldsAre defs.Native (Fields.Declared l) = ⊥
+FieldsAre (defs.Declared ts) Fields.Native = ⊥
+FieldsAre (defs.Declared ts) (Fields.Declared l) = ListIs ts l
 
-pub record DefIs (s : List ℕ) (d : defs.StructDefinition) (r : StructDef) : Type 0 where
+pub record DefIs (d : defs.StructDefinition) (r : StructDef) : Type 0 where
   pub handle : r.handle.0 ≡ d.struct_handle
-  pub fields : FieldsAre s d.field_information r.fields
+  pub fields : FieldsAre d.field_information r.fields
+
+-- the fields' types stand in the bytes s
+abbrev pub FieldsIn : List ℕ → Fields → Type 0
+FieldsIn s Fields.Native = Unit {0}
+FieldsIn s (Fields.Declared l) = l.types.bytes.now ≡ s
 
 -- some definition's record has its command at `at`
 pub record DefAt (s : List ℕ) (at : ℕ) : Type 0 where

@@ -6,12 +6,13 @@ use Rattle.std.proofs.Common.{ap, ap₂, ◌∙◌, arith, leb→le}
 use Rattle.std.proofs.Math.Decide.{dec_le}
 use Rattle.std.proofs.Math.ListN.{length, get_or-eq_default}
 use Rattle.status.specs.declared.StatusCode.TheVariants.{VALUE}
-use Rattle.definitions.specs.SignatureToken.{Signature, arguments, count}
+use Rattle.definitions.specs.SignatureToken.{Signature, arguments, count, encode_all}
 use Rattle.definitions.specs.Bytecode.{Bytecode}
 use Rattle.definitions.specs.CompiledUnit as defs
 use Rattle.definitions.specs.Commands.{InstructionForm, plain, unkept, local, counted, commands_of, instruction_forms, instruction_form}
 use Rattle.definitions.specs.Reading.{read, next, ◌>>=◌, ◌>>◌, give, here, need, byte, u16, number, skip, many}
-use Rattle.definitions.specs.Places.{TypesAt}
+use Rattle.definitions.specs.Places.{At, TypesAt}
+use Rattle.theorems.specs.Bytes.{list_of, arguments_list_of}
 use Rattle.definitions.specs.Reader.{type, types, byte_up_to, field_information, struct_definition, operands, instruction}
 use Rattle.record_reader.specs.ReadTo.{read_to}
 use Rattle.record_reader.specs.Alike.{skip_short, number_takes}
@@ -19,11 +20,11 @@ use Rattle.instruction_reader.specs.Widths.{width_of, operand_width}
 use Rattle.record_reader.specs.BodyLaws.{same_instructions}
 use Rattle.record_reader.specs.Apart.{parts, made, byte_read, u16_of, u16_read, number_of, OperandsAt, plain_at, unkept_at, local_at, index_at, counted_at, instruction_read}
 use Rattle.record_reader.specs.Sound.{types_sound}
-use Rattle.record_views.specs.declared.TypeList.{TypeList}
+use Rattle.signature_token.specs.declared.SignatureView.{SignatureView}
 use Rattle.record_views.specs.declared.Fields.{Fields}
 use Rattle.record_views.specs.declared.StructDef.{StructDef}
 use Rattle.record_views.specs.declared.Instruction.{Instruction}
-use Rattle.record_views.specs.Records.{TypesIn, ListAt, DefIs, DefAt, applied, instruction_of, InstructionHere, InstructionIs}
+use Rattle.record_views.specs.Records.{ListIs, TypesIn, ListHere, DefIs, DefAt, applied, instruction_of, InstructionHere, InstructionIs}
 
 -- every element is a byte
 abbrev pub Bytes : List ℕ → Type 0
@@ -37,24 +38,40 @@ count_arguments [] = refl
 count_arguments (t ∷ ts) = ap suc (count_arguments ts)
 
 -- the types of a list, as a walk takes them
-abbrev pub types_at : {s : List ℕ} {r : TypeList} → TypesIn s r → TypesAt s r.at r.count
+abbrev pub types_at : {r : SignatureView} → TypesIn r → TypesAt r.types.bytes.now r.types.at r.types.count
 types_at q = record { types = arguments q.types; counted = count_arguments q.types ∙ sym q.are.counted; stands = q.are.stands }
 
-module _ {s : List ℕ} (bytes : Bytes s) where
-  -- a list that was read at `at`: its count stands there, and its types behind it
-  pub list_read : (at : ℕ) {r : TypeList} → r.at ≡ at + 1 → r.count ≡ get_or s at 0 → ListAt s at r
-  unfolding types type
-  list_read at {r} p q head ts e h =
-      let a = parts byte (λ n. many n (type (commands_of head))) s at h in
-      let b = byte_read s at a.first in
-      let t = types_sound head s bytes 32 a.value a.middle e ts a.second in
-      let n : length ts ≡ a.value = sym (count_arguments ts) ∙ t.number in
-      let x : a.middle ≡ r.at = b.next_at ∙ sym p in
-      record {
-        counted = q ∙ sym b.is ∙ sym n;
-        small = omega (arith, bytes at);
-        stands = rw x at t.stand;
-      }
+-- each list has its types
+pub types_in : (r : SignatureView) → TypesIn r
+types_in r =
+    let k = r.types.stand in
+    let e = arguments_list_of k.types in
+    record {
+      types = list_of k.types;
+      are = record { counted = sym k.counted ∙ ap count (sym e) ∙ count_arguments (list_of k.types); stands = rw e k.stands };
+    }
+
+module _ {s : List ℕ} {at : ℕ} (p : ListHere s at) where
+  -- the count of a list that was read stands at `at`
+  pub list_within : at < length s
+  unfolding types
+  list_within = (byte_read s at (parts byte (λ n. many n (type (commands_of p.head))) s at p.reads).first).within
+
+  module _ (bytes : Bytes s) where
+    -- and its types behind it
+    list_read : (length p.types ≡ get_or s at 0) × At s (at + 1) (encode_all (arguments p.types))
+    unfolding types type
+    list_read =
+        let a = parts byte (λ n. many n (type (commands_of p.head))) s at p.reads in
+        let b = byte_read s at a.first in
+        let t = types_sound p.head s bytes 32 a.value a.middle p.ends p.types a.second in
+        (sym (count_arguments p.types) ∙ t.number ∙ b.is, rw b.next_at at t.stand)
+
+    pub list_stands : {n : ℕ} → n ≡ get_or s at 0 → TypesAt s (at + 1) n
+    list_stands e = record { types = arguments p.types; counted = count_arguments p.types ∙ list_read.0 ∙ sym e; stands = list_read.1 }
+
+    pub list_here : {r : SignatureView} → r.types.bytes.now ≡ s → r.types.at ≡ at + 1 → r.types.count ≡ get_or s at 0 → ListIs p.types r
+    list_here e f g = record { counted = g ∙ sym list_read.0; stands = rw (e, f) list_read.1 }
 
 -- ── struct definitions ──
 
@@ -119,27 +136,27 @@ declared_read head s at (suc kind) n h =
 
 module _ {s : List ℕ} {at : ℕ} (p : DefAt s at) where
   -- kind 0
-  pub def_native : {r : StructDef} → get_or s (at + 3) 0 ≡ 0 → r.handle.0 ≡ u16_of s (at + 1) → r.fields ≡ Fields.Native → DefIs s p.def r
+  pub def_native : {r : StructDef} → get_or s (at + 3) 0 ≡ 0 → r.handle.0 ≡ u16_of s (at + 1) → r.fields ≡ Fields.Native → DefIs p.def r
   unfolding field_information
   def_native {r} k h f =
       let d = def_read p in
       let n : defs.Native ≡ p.def.field_information = (made s (rw k at d.fields)).0 in
       record { handle = h ∙ sym d.handle; fields = rw (← n, f) tt }
 
-  -- kind 1
-  pub def_declared : {r : StructDef} {l : TypeList} → (get_or s (at + 3) 0 ≡ 0 → ⊥) → r.handle.0 ≡ u16_of s (at + 1) → r.fields ≡ Fields.Declared l → ListAt s (at + 4) l → DefIs s p.def r
+  -- kind 1: a list of types stands behind it
+  pub def_list : (get_or s (at + 3) 0 ≡ 0 → ⊥) → ListHere s (at + 4)
+  def_list k =
+      let d = def_read p in
+      let (ts, e, x, y) = declared_read p.head s (at + 4) (get_or s (at + 3) 0) k d.fields in
+      record { head = p.head; types = ts; ends = e; reads = x }
+
+  pub def_declared :
+      {r : StructDef} {l : SignatureView} → (get_or s (at + 3) 0 ≡ 0 → ⊥) → r.handle.0 ≡ u16_of s (at + 1) → r.fields ≡ Fields.Declared l →
+      ((q : ListHere s (at + 4)) → ListIs q.types l) → DefIs p.def r
   def_declared {r} {l} k h f w =
       let d = def_read p in
       let (ts, e, x, y) = declared_read p.head s (at + 4) (get_or s (at + 3) 0) k d.fields in
-      record { handle = h ∙ sym d.handle; fields = rw (y, f) (w p.head ts e x) }
-
--- a declared definition's count stands there
-pub def_room : {s : List ℕ} {at : ℕ} → DefAt s at → (get_or s (at + 3) 0 ≡ 0 → ⊥) → at + 4 < length s
-unfolding types
-def_room {s} {at} p k =
-    let d = def_read p in
-    let (ts, e, x, y) = declared_read p.head s (at + 4) (get_or s (at + 3) 0) k d.fields in
-    (byte_read s (at + 4) (parts byte _ s (at + 4) x).first).within
+      record { handle = h ∙ sym d.handle; fields = rw (y, f) (w (record { head = p.head; types = ts; ends = e; reads = x })) }
 
 -- ── instructions ──
 

@@ -3,29 +3,23 @@
 
 ghost use Rattle.std.specs.Prelude.{◌≡◌, ◌+◌, ◌<◌, length};
 ghost use Rattle.record_reader.specs.Apart.{number_of};
-ghost use Rattle.record_views.specs.Records.{ListAt, DefAt, InstructionHere, InstructionIs, DefIs};
+ghost use Rattle.record_views.specs.Records.{ListHere, ListIs, DefAt, InstructionHere, InstructionIs, DefIs, FieldsIn};
 
 use file_format::StructHandleIndex;
 use numbers::u16_at;
+use signature_token::{SignatureView, TypeList};
 
-// The types of a list: where the first stands in the unit, and how many there are.
+// `StructFieldInformation`: the Rust's two variants, so no Option.
 #[derive(Clone, Copy)]
-pub struct TypeList {
-    pub at: usize,
-    pub count: usize,
-}
-
-// `StructFieldInformation`.
-#[derive(Clone, Copy)]
-pub enum Fields {
+pub enum Fields<'a> {
     Native,
-    Declared(TypeList),
+    Declared(SignatureView<'a>),
 }
 
 #[derive(Clone, Copy)]
-pub struct StructDef {
+pub struct StructDef<'a> {
     pub handle: StructHandleIndex,
-    pub fields: Fields,
+    pub fields: Fields<'a>,
 }
 
 // An instruction: its opcode, the local or the table index after it, and how many elements. What the opcode does not take is anything.
@@ -37,7 +31,7 @@ pub struct Instruction {
     pub count: u64,
 }
 
-// The u64 at `at`.
+// The u64 at `at`: eight indices, since a slice of the bytes would have to be made an array again.
 fn u64_at(s: &[u8], at: usize) -> u64
     requires { at + 7 < length s.now }
     ensures { result ≡ number_of 8 s.now at }
@@ -55,28 +49,33 @@ fn u64_at(s: &[u8], at: usize) -> u64
 }
 
 // The list of types whose count stands at `at`: a signature's, or a declared struct's fields.
-pub fn type_list(s: &[u8], at: usize) -> TypeList
-    requires { at < length s.now }
-    ensures { ListAt s.now at result }
+pub fn signature_at(s: &[u8], at: usize) -> SignatureView<'_>
+    requires { ListHere s.now at }
+    ensures are { (p : ListHere s.now at) → ListIs p.types result }
+    ensures in_bytes { result.types.bytes.now ≡ s.now }
 {
-    TypeList {
-        at: at + 1,
-        count: usize::from(s[at]),
+    SignatureView {
+        types: TypeList {
+            bytes: s,
+            at: at + 1,
+            count: usize::from(s[at]),
+        },
     }
 }
 
 // The struct definition whose command stands at `at`.
-pub fn struct_def_at(s: &[u8], at: usize) -> StructDef
+pub fn struct_def_at(s: &[u8], at: usize) -> StructDef<'_>
     requires at_in_bounds { at + 3 < length s.now }
     requires def_at { DefAt s.now at }
-    ensures { (p : DefAt s.now at) → DefIs s.now p.def result }
+    ensures is { (p : DefAt s.now at) → DefIs p.def result }
+    ensures in_bytes { FieldsIn s.now result.fields }
 {
     StructDef {
         handle: StructHandleIndex(u16_at(s, at + 1)),
         fields: if s[at + 3] == 0 {
             Fields::Native
         } else {
-            Fields::Declared(type_list(s, at + 4))
+            Fields::Declared(signature_at(s, at + 4))
         },
     }
 }

@@ -10,12 +10,11 @@ use Rattle.theorems.specs.Bytes.{one_type}
 use Rattle.type_tests.specs.declared.Referent.{Referent}
 use Rattle.type_tests.specs.declared.Referent.TheVariants as kind
 use Rattle.signature_token.specs.Token.{token_of}
-use Rattle.signature_token.specs.Same.{Spans}
 use Rattle.type_tests.specs.Kinds.{ReferentAt, referent_of}
 use Rattle.type_stack.specs.declared.Entry.{Entry}
 use Rattle.type_stack.specs.Held.{Stacked, Here, Part}
 use Rattle.type_stack.specs.Tops.{TopOf, TopTwoOf, topped, topped_two}
-use Rattle.operand_steps.specs.Operands.{operand, span, referent, referent_room, Refers, refers, refers_mutably, refers_not, inner_is, standing}
+use Rattle.operand_steps.specs.Operands.{operand, referent, referent_room, Refers, refers, refers_mutably, refers_not, inner_is, standing}
 
 -- either kind of reference taken as one
 abbrev pub either_of : Referent → Option ℕ
@@ -80,11 +79,8 @@ module _ {a : List ℕ} {w : ℕ} {x : Entry} (k : Stacked a w) (p : TopOf a w (
   inner_room = let o = topped k p in referent_room (refers_either n o.here e).refers k o
 
 module _ {a : List ℕ} {w : ℕ} {x y : Entry} (k : Stacked a w) (p : TopTwoOf a w (Ok (x, y))) where
-  pub second_span : Spans a y.start y.len
-  second_span = span (topped_two k p).1.here
-
   pub mutable_referent : {r : Referent} {z : ℕ} → ReferentAt a x.start r → r ≡ kind.MutableReference z → TypeAt a z
   mutable_referent n e = referent (refers_mutably n (topped_two k p).0.here e)
 
 -- for `search`, which finds the looks among what was learnt
-pub ruleset references = (inner_by, inner_type, second_span, mutable_referent)
+pub ruleset references = (inner_by, inner_type, mutable_referent)

@@ -78,10 +78,7 @@ pub fn write_ref(area: &[u8], weight: usize, unit: &UnitView<'_>) -> PartialVMRe
     ensures { StepsTo (step.write_ref (compiled unit.now)) area.now weight area.now result }
 {
     let (top, below) = type_stack::pop_two(area, weight)?;
-    let reference = type_tests::referent_of(TypeRef {
-        bytes: area,
-        at: top.start,
-    });
+    let reference = operand_steps::referent_of(area, top);
     let Referent::MutableReference(inner) = reference else {
         return Err(StatusCode::WRITEREF_NO_MUTABLE_REFERENCE_ERROR);
     };

@@ -1,5 +1,5 @@
 // Judges a recorded sample of cases and writes a verdict to a line; what it must write is what the oracle answered to them. README.md
-// beside `src` says how the sample was made and what it covers.
+// beside `src` says how the sample was made and what it covers. No heap is used, so the input's array is fixed.
 #![tactic(auto)]
 
 use std::io;

@@ -1,14 +1,14 @@
 // The steps of type_safety.rs that ask for a struct in global storage or change it: exists, move_from and move_to. Each tests key before it pops.
-#![tactic(auto, using(type_stack::specs::Stepping::pops, operand_steps::specs::Operands::operands, step_views::specs::Looked::types), unfolding(definitions::specs::TypeSafety::exists, definitions::specs::TypeSafety::move_from, definitions::specs::TypeSafety::move_to))]
+#![tactic(auto, using(operand_steps::specs::Operands::operands, operand_steps::specs::Leaves::addresses))]
 
-ghost use Rattle.definitions.specs.Result.{ok};
+ghost use Rattle.std.specs.Prelude.{IfOk};
 ghost use Rattle.definitions.specs.TypeSafety as step;
 ghost use Rattle.file_format.specs.declared.Ability.TheVariants.{Key};
 ghost use Rattle.type_stack.specs.Held.{Stacked};
 ghost use Rattle.type_stack.specs.Stepping.{StepsTo};
 ghost use Rattle.unit_tables.specs.Compiled.{compiled};
 ghost use Rattle.step_views.specs.Checks.{AbilityIs};
-ghost use Rattle.step_views.specs.Looked.{StructIn};
+ghost use Rattle.step_views.specs.Looked.{FewBytes, Looked, StructIn};
 ghost use Rattle.resource_steps.specs.Resources.{SignerReferenceAt};
 
 use file_format::Ability;
@@ -20,8 +20,7 @@ use unit_tables::UnitView;
 
 // Asks the struct that was found for key.
 fn needs_key(unit: &UnitView<'_>, found: StructWith, status: StatusCode) -> PartialVMResult<()>
-    requires { StructIn unit.now.bytes.now found }
-    ensures { (q : StructIn unit.now.bytes.now found) → AbilityIs (compiled unit.now) (step.struct_type q.struct) Key status result }
+    ensures { (q : StructIn found.entry) → AbilityIs (compiled unit.now) (step.struct_type q.struct) Key status result }
 {
     let h = found.def.handle;
     step_views::check_struct_ability(unit, h, found.type_args, Ability::Key, status)
@@ -32,12 +31,12 @@ pub fn exists(
     area: &mut [u8],
     weight: usize,
     unit: &UnitView<'_>,
-    found: StructWith,
+    looked: PartialVMResult<StructWith<'_>>,
 ) -> PartialVMResult<usize>
     requires stacked { Stacked area.old weight }
-    requires struct_in { StructIn unit.now.bytes.now found }
-    ensures { (q : StructIn unit.now.bytes.now found) → StepsTo (step.exists (compiled unit.now) (ok q.struct)) area.old weight area.new result }
+    ensures { (q : Looked looked.entry) → StepsTo (step.exists (compiled unit.now) q.result) area.old weight area.new result }
 {
+    let found = looked?;
     let refusal = StatusCode::EXISTS_WITHOUT_KEY_ABILITY_OR_BAD_ARGUMENT;
     needs_key(unit, found, refusal)?;
     let below = operand_steps::pop_leaf(area, weight, ADDRESS, refusal)?;
@@ -49,17 +48,18 @@ pub fn move_from(
     area: &mut [u8],
     weight: usize,
     unit: &UnitView<'_>,
-    found: StructWith,
+    looked: PartialVMResult<StructWith<'_>>,
 ) -> PartialVMResult<usize>
     requires stacked { Stacked area.old weight }
-    requires struct_in { StructIn unit.now.bytes.now found }
-    ensures { (q : StructIn unit.now.bytes.now found) → StepsTo (step.move_from (compiled unit.now) (ok q.struct)) area.old weight area.new result }
+    requires short { IfOk looked FewBytes }
+    ensures { (q : Looked looked.entry) → StepsTo (step.move_from (compiled unit.now) q.result) area.old weight area.new result }
 {
+    let found = looked?;
     let no_key = StatusCode::MOVEFROM_WITHOUT_KEY_ABILITY;
     let mismatch = StatusCode::MOVEFROM_TYPE_MISMATCH_ERROR;
     needs_key(unit, found, no_key)?;
     let below = operand_steps::pop_leaf(area, weight, ADDRESS, mismatch)?;
-    made_types::push_struct(area, below, unit.bytes, found.def.handle, found.type_args)
+    made_types::push_struct(area, below, found.def.handle, found.type_args)
 }
 
 // Whether the type is `&signer`.
@@ -79,16 +79,16 @@ pub fn move_to(
     area: &[u8],
     weight: usize,
     unit: &UnitView<'_>,
-    found: StructWith,
+    looked: PartialVMResult<StructWith<'_>>,
 ) -> PartialVMResult<usize>
     requires stacked { Stacked area.now weight }
-    requires struct_in { StructIn unit.now.bytes.now found }
-    ensures { (q : StructIn unit.now.bytes.now found) → StepsTo (step.move_to (compiled unit.now) (ok q.struct)) area.now weight area.now result }
+    ensures { (q : Looked looked.entry) → StepsTo (step.move_to (compiled unit.now) q.result) area.now weight area.now result }
 {
+    let found = looked?;
     needs_key(unit, found, StatusCode::MOVETO_WITHOUT_KEY_ABILITY)?;
     let (top, below) = type_stack::pop_two(area, weight)?;
     let h = found.def.handle;
-    if made_types::struct_is(area, top.start, top.len, unit.bytes, h, found.type_args) {
+    if made_types::struct_is(area, top.start, top.len, h, found.type_args) {
         if is_signer_reference(TypeRef {
             bytes: area,
             at: below.start,

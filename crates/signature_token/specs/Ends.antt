@@ -1,6 +1,6 @@
--- Where a type with no type inside ends, by what `token_at` found of it; and how the measure falls of a walk whose functions call each
+-- Where a type with no type inside ends, by what `token` found of it; and how the measure falls of a walk whose functions call each
 -- other: unread bytes first, then how many types are left.
-use Rattle.std.specs.Prelude.{◌≡◌, List, ℕ, ◌+◌, ◌-◌, ◌*◌, ◌≤◌, ◌<◌, length, get_or}
+use Rattle.std.specs.Prelude.{◌≡◌, List, ℕ, ◌+◌, ◌-◌, ◌*◌, ◌≤◌, ◌<◌, length}
 use Rattle.std.proofs.Common.{arith}
 use Rattle.definitions.specs.SignatureToken.{encode}
 use Rattle.definitions.specs.Places.{TypeAt, EndOfType}
@@ -8,9 +8,9 @@ use Rattle.theorems.specs.AtLaws.{at_room}
 use Rattle.file_format.specs.declared.StructHandleIndex.{StructHandleIndex}
 use Rattle.signature_token.specs.declared.Wrapper.{Wrapper}
 use Rattle.signature_token.specs.declared.Token.{Token}
-use Rattle.signature_token.specs.declared.Token.TheVariants.{Leaf, Wrapped, Struct, StructInstantiation, TypeParameter}
+use Rattle.signature_token.specs.declared.Token.TheVariants.{Leaf, Wrapped, Struct, TypeParameter}
 use Rattle.signature_token.specs.Token.{TokenAt, encode_pos}
-use Rattle.signature_token.specs.TokenLaws.{leaf_long, leaf_at, wrapped_at, struct_at, instantiation_at, parameter_at}
+use Rattle.signature_token.specs.TokenLaws.{leaf_long, leaf_at, wrapped_at, struct_at, parameter_at}
 
 module _ {s : List ℕ} {at : ℕ} {r : Token} (w : TokenAt s at r) where
   pub leaf_end : {b : ℕ} → r ≡ Leaf b → EndOfType s at (at + 1)
@@ -39,6 +39,3 @@ list_measure s at n = 256 * (length s - at) + n
 module _ {s : List ℕ} {at : ℕ} {r : Token} (w : TokenAt s at r) (p : TypeAt s at) where
   pub inner_falls : {v : Wrapper} {x : ℕ} → r ≡ Wrapped v x → type_measure s x < type_measure s at
   inner_falls e = omega (arith, (wrapped_at w p e).place, type_room p, encode_pos p.type)
-
-  pub arguments_fall : {k : StructHandleIndex} {n x : ℕ} → r ≡ StructInstantiation k n x → get_or s (at + 3) 0 < 256 → list_measure s x n < type_measure s at
-  arguments_fall e l = let k = instantiation_at w p e in omega (arith, k.place, k.long, k.byte, type_room p)

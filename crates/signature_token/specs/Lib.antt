@@ -7,3 +7,4 @@ pub mod Plain
 pub mod Passing
 pub mod Same
 pub mod Standing
+pub mod Kept

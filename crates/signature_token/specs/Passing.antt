@@ -83,9 +83,6 @@ module _ {s : List ℕ} {at : ℕ} {ts : SignatureTokens} {p k : ℕ} {r : Token
 abbrev pub Passing : List ℕ → ℕ → ℕ → ℕ → ℕ → Type 0
 Passing s at n p k = (q : TypesAt s at n) → Left s at q.types p k
 
-pub passing_start : {s : List ℕ} {at n : ℕ} → Passing s at n at n
-passing_start q = record { others = q.types; counted = q.counted; stands = q.stands; past = omega arith; ends = refl }
-
 module _ {s : List ℕ} {at n p k : ℕ} {r : Token} (l : 0 < k) (c : Passing s at n p k) (w : TokenAt s p r) where
   pub leaf_passed : {b : ℕ} → r ≡ Leaf b → Passing s at n (p + 1) (k - 1)
   leaf_passed e q = left_after l (c q) (leaf_end w e) refl

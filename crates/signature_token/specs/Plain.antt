@@ -1,6 +1,6 @@
 -- What the commands alone tell of a type that stands there: how many bytes a plain one has, and where the type inside one stands that one
 -- command is around.
-use Rattle.std.specs.Prelude.{◌≡◌, refl, List, ◌∷◌, ℕ, zero, suc, ◌+◌, ◌<◌, length, get_or}
+use Rattle.std.specs.Prelude.{◌≡◌, refl, Option, Some, None, List, ◌∷◌, ℕ, zero, suc, ◌+◌, ◌<◌, length, get_or}
 use Rattle.std.proofs.Common.{sym, ap, ◌∙◌, add-zero, arith}
 use Rattle.definitions.specs.SignatureToken.{SignatureToken, Bool', U8, U64, U128, Address, Signer, Vector, Struct, StructInstantiation, Reference, MutableReference, TypeParameter, encode}
 use Rattle.definitions.specs.Places.{At, TypeAt, EndOfType}
@@ -8,9 +8,10 @@ use Rattle.theorems.specs.AtLaws.{at_byte, at_next}
 use Rattle.type_commands.specs.Plain.{opened, plain_width, wrapping, around_most}
 use Rattle.signature_token.specs.Token.{at_some}
 
--- where r is not 0, the type at `at` ends at r
-abbrev pub PlainEnd : List ℕ → ℕ → ℕ → Type 0
-PlainEnd s at r = 0 < r → EndOfType s at r
+-- where an end is told, the type at `at` ends there
+abbrev pub PlainEnd : List ℕ → ℕ → Option ℕ → Type 0
+PlainEnd s at (Some r) = EndOfType s at r
+PlainEnd s at None = Unit {0}
 
 -- what the first byte tells of a type: all its bytes, that one type stands behind it, or nothing
 data Told (b : ℕ) (t : SignatureToken) : Type 0 where
@@ -69,12 +70,18 @@ module _ {s : List ℕ} {at : ℕ} (p : TypeAt s at) where
   plain_ends (suc zero) width e f k = let i = behind (sym e) in omega (arith, plain_here i.inner f k, i.long)
   plain_ends (suc (suc w)) width e f k = absurd (omega (arith, around_most (opened (get_or s at 0))))
 
+-- so many bytes the type has, where they are told
+pub plain_long :
+    {s : List ℕ} {at : ℕ} (p : TypeAt s at) → 0 < plain_width (get_or s (at + wrapping (get_or s at 0)) 0) →
+    length (encode p.type) ≡ wrapping (get_or s at 0) + plain_width (get_or s (at + wrapping (get_or s at 0)) 0)
+plain_long p k = omega (arith, plain_ends p _ _ refl refl k)
+
 -- a command below a vector's is a leaf's
-pub leaf_ends : {s : List ℕ} {at : ℕ} → get_or s at 0 < 7 → EndOfType s at (at + 1)
+pub leaf_ends : {s : List ℕ} {at : ℕ} (p : TypeAt s at) → get_or s at 0 < 7 → length (encode p.type) ≡ 1
 unfolding encode
-leaf_ends {s} {at} h p = go p.type p.stands
+leaf_ends {s} {at} p h = go p.type p.stands
   where
-    go : (t : SignatureToken) → At s at (encode t) → at + 1 ≡ at + length (encode t)
+    go : (t : SignatureToken) → At s at (encode t) → length (encode t) ≡ 1
     go Bool' k = refl
     go U8 k = refl
     go U64 k = refl

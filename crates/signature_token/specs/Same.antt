@@ -14,7 +14,8 @@ use Rattle.signature_token.specs.Token.{encode_pos}
 
 -- ── the words ──
 
--- some type of l bytes stands at x
+-- some type of l bytes stands at x. It is said of an entry of the area: `Entry` is numbers alone, since the next step may write the area, and a
+-- struct of bytes, place and length would be a literal of four lines at callers that have the three at hand
 pub record Spans (s : List ℕ) (x l : ℕ) : Type 0 where
   pub type : SignatureToken
   pub stands : At s x (encode type)

@@ -1,5 +1,5 @@
 -- That a type, or a number of types, stands at a place has one proof at most: bytes begin with one type at most. A struct keeps such a fact.
-use Rattle.std.specs.Prelude.{◌≡◌, refl, List, [], ◌∷◌, ◌++◌, ℕ, ◌+◌, drop}
+use Rattle.std.specs.Prelude.{◌≡◌, refl, List, ◌++◌, ℕ, drop}
 use Rattle.std.specs.Coded.{Coded-set, coded_list, coded_ℕ}
 use Rattle.std.proofs.Common.{sym, ap, ◌∙◌, append_assoc, arith}
 use mathlib.Core.HLevel.{Σ_prop_path, ×_prop}

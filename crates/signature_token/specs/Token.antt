@@ -139,14 +139,15 @@ module _ {s : List ℕ} {at : ℕ} where
   seen (MutableReferenceOf t) h = wrapped_seen (MutableReferenceOf t) t 0x0B h refl refl (λ i n. refl)
   seen (ParameterOf i) h = index_seen (ParameterOf i) 0x0C i h (λ n. refl) refl
 
--- the same, where the command's shape is found
-module _ {s : List ℕ} {at : ℕ} {x : Shape} (p : TypeAt s at) (e : shape_of (get_or s at 0) ≡ x) where
+-- the same of a type that stands there
+module _ {s : List ℕ} {at : ℕ} (p : TypeAt s at) where
   pub token_by_law :
-      token_of p.type at ≡ token_by x (get_or s at 0) (get_or s (at + 1) 0 + 256 * get_or s (at + 1 + 1) 0) (get_or s (at + 3) 0) at
-  token_by_law = (seen p.type p.stands).token ∙ rw e
+      token_of p.type at
+      ≡ token_by (shape_of (get_or s at 0)) (get_or s at 0) (get_or s (at + 1) 0 + 256 * get_or s (at + 1 + 1) 0) (get_or s (at + 3) 0) at
+  token_by_law = (seen p.type p.stands).token
 
-  pub room_by : at + least_by x ≤ length s
-  room_by = rw e at (seen p.type p.stands).fits
+  pub room_by : at + least_by (shape_of (get_or s at 0)) ≤ length s
+  room_by = (seen p.type p.stands).fits
 
 -- a type has a first byte
 pub at_some : {s : List ℕ} {at : ℕ} (p : TypeAt s at) → at < length s

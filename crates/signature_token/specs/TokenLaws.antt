@@ -1,4 +1,4 @@
--- What a type is whose parts `token_at` found: one law for each answer, with the types that stand below and how many bytes there are.
+-- What a type is whose parts `token` found: one law for each answer, with the types that stand below and how many bytes there are.
 use Rattle.std.specs.Prelude.{◌≡◌, refl, List, [], ◌∷◌, ◌++◌, ℕ, ◌+◌, ◌-◌, ◌/◌, ◌%◌, length, get_or}
 use Rattle.std.proofs.Common.{sym, ap, ◌∙◌, arith, length-append}
 use Rattle.definitions.specs.SignatureToken.{SignatureToken, SignatureTokens, Bool', U8, U64, U128, Address, Signer, Vector as VectorOf, Struct as StructOf, StructInstantiation as InstantiationOf, Reference as ReferenceOf, MutableReference as MutableReferenceOf, TypeParameter as ParameterOf, []ᵗ, ◌∷ᵗ◌, count, encode, encode_all}
@@ -164,7 +164,7 @@ unfolding count
 none_is []ᵗ e = refl
 none_is (t ∷ᵗ ts) e = absurd (omega arith)
 
--- ── the same, of the type that stands where `token_at` was asked ──
+-- ── the same, of the type that stands where `token` was asked ──
 
 -- a leaf is its command
 pub leaf_bytes : {t : SignatureToken} {b : ℕ} → IsLeaf t b → encode t ≡ b ∷ []

@@ -3,7 +3,7 @@
 // has its own.
 #![tactic(auto)]
 
-ghost use Rattle.std.specs.Prelude.{◌≡◌};
+ghost use Rattle.std.specs.Prelude.{◌≡◌, ◌<◌};
 ghost use Rattle.definitions.specs.Places.{TypeAt, TypesAt, EndOfType, EndOfTypes};
 ghost use Rattle.signature_token.specs.Token.{shape_of, TokenAt, HasFew};
 ghost use Rattle.signature_token.specs.Plain.{PlainEnd};
@@ -49,7 +49,7 @@ pub enum Wrapper {
 }
 
 // A type taken apart: its command where it is a leaf; what is around it and where the inner type stands; a handle; a handle, how many
-// arguments and where the first stands; a parameter's number.
+// arguments and where the first stands; a parameter's number. A leaf stays a command, since that is what is compared and pushed.
 #[derive(Clone, Copy)]
 pub enum Token {
     Leaf(u8),
@@ -105,8 +105,17 @@ pub struct TypeList<'a> {
     pub ghost stand: { TypesAt bytes.now at count } by { TypesAt-prop bytes.now at count },
 }
 
+// Types that a unit lists, a `Signature`'s or a declared struct's fields: their count is a byte. That their bytes are few, as a unit's are, is asked
+// by those who keep places of them in 16 bits or push them; the others take longer ones too.
+#[derive(Clone, Copy)]
+pub struct SignatureView<'a> {
+    pub types: TypeList<'a>,
+    pub ghost few: { types.count < 256 },
+}
+
 impl TypeRef<'_> {
     // The type, taken apart.
+    #[tactic(auto, using(crate::specs::Kept::token_laws))]
     pub fn token(self) -> Token
         ensures is { TokenAt self.entry.bytes.now self.entry.at result }
         ensures few { HasFew result }
@@ -129,22 +138,23 @@ impl TypeRef<'_> {
         }
     }
 
-    // Its end, if it is plain or one command stands around a plain one, and otherwise 0. Which of these types it is decides nothing but what
-    // is added.
-    fn plain_end(self) -> usize
+    // Its end, if it is plain or one command stands around a plain one. Which of these types it is decides nothing but what is added.
+    #[tactic(auto, using(crate::specs::Kept::plain_laws))]
+    fn plain_end(self) -> Option<usize>
         ensures { PlainEnd self.entry.bytes.now self.entry.at result }
     {
         let s = self.bytes;
         let p = self.at + wraps(s[self.at]);
         let width = plain_width(s[p]);
         if width == 0 {
-            return 0;
+            return None;
         }
-        p + width
+        Some(p + width)
     }
 
     // Its end. Leaves are told by one decision, since in code that repeats itself that is foreseen; the others that are plain or wrapped once by
     // sums; and only what is left is walked.
+    #[tactic(auto, using(crate::specs::Kept::end_laws))]
     pub fn end(self) -> usize
         ensures { EndOfType self.entry.bytes.now self.entry.at result }
     {
@@ -153,8 +163,7 @@ impl TypeRef<'_> {
         if s[at] < VECTOR {
             return at + 1;
         }
-        let end = self.plain_end();
-        if 0 < end {
+        if let Some(end) = self.plain_end() {
             return end;
         }
         TypeList {
@@ -167,7 +176,8 @@ impl TypeRef<'_> {
 }
 
 impl TypeList<'_> {
-    // The end of the last. A type inside another is passed as one more of those that are left, so that nothing calls itself.
+    // The end of the last. A type inside another is passed as one more of those that are left, so that nothing calls itself; their number
+    // rises and falls, which no `for` counts.
     pub fn end(self) -> usize
         ensures { EndOfTypes self.entry.bytes.now self.entry.at self.entry.count result }
     {

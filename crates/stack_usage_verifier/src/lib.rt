@@ -28,6 +28,7 @@ fn height_after(height: u64, pops: u64, pushes: u64) -> PartialVMResult<u64>
 }
 
 // A block, from its first to its last instruction: each block starts at height 0, and ends there.
+#[tactic(auto, using(crate::proofs::Blocks::block_even))]
 fn verify_block(unit: &UnitView<'_>, block: Block) -> PartialVMResult<()>
     requires { (block.first ≤ block.last) × (block.last < unit.now.view.code.count) }
     ensures { told (λ u. u) result ≡ verify_block (compiled unit.now) (block_of block) }
@@ -47,6 +48,7 @@ fn verify_block(unit: &UnitView<'_>, block: Block) -> PartialVMResult<()>
 }
 
 // `StackUsageVerifier::verify`: the blocks as listed; the first refusal ends it, with its block's start.
+#[tactic(auto, using(crate::proofs::Blocks::in_blocks))]
 pub fn verify(unit: &UnitView<'_>) -> Verdict
     ensures { result ≡ stack_usage (compiled unit.now) }
 {

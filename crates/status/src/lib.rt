@@ -60,7 +60,8 @@ pub enum StatusCode {
 // `PartialVMResult` of errors.rs, without its message and sub-status: a value, or the status of a refusal.
 pub type PartialVMResult<T> = Result<T, StatusCode>;
 
-// What a verdict is about: a byte of the unit, the first instruction of a block, an instruction, or nothing.
+// What a verdict is about: a byte of the unit, the first instruction of a block, an instruction, or nothing, which has its own letter in what is
+// printed, so that it is a variant and no Option.
 #[derive(Clone, Copy)]
 pub enum Position {
     Byte(u16),
@@ -69,7 +70,7 @@ pub enum Position {
     None,
 }
 
-// The answer of each public call.
+// The answer of each public call. Not a Result: that a unit is refused is no failure of the call, and both answers are printed and packed alike.
 #[derive(Clone, Copy)]
 pub enum Verdict {
     Accepted,

@@ -6,46 +6,49 @@ ghost use Rattle.definitions.specs.CompiledUnit as defs;
 ghost use Rattle.definitions.specs.Places.{TypeAt};
 ghost use Rattle.definitions.specs.Substitution.{materialize_type};
 ghost use Rattle.record_views.specs.Records.{TypesIn};
-ghost use Rattle.std.specs.Prelude.{◌≡◌};
+ghost use Rattle.std.specs.Prelude.{◌≡◌, IfOk};
 ghost use Rattle.unit_tables.specs.Answers.{ResultIs};
 ghost use Rattle.unit_tables.specs.Compiled.{compiled};
-ghost use Rattle.step_views.specs.Structs.{WithIs};
+ghost use Rattle.step_views.specs.Structs.{WithIs, WithIn};
 ghost use Rattle.step_views.specs.Checks.{asked, AbilityIs};
 
 use file_format::{
     Ability, AbilitySet, StructDefInstantiationIndex, StructDefinitionIndex, StructHandleIndex,
 };
-use record_views::{StructDef, TypeList};
-use signature_token::{Token, TypeRef};
+use record_views::StructDef;
+use signature_token::{SignatureView, Token, TypeRef};
 use status::{PartialVMResult, StatusCode};
 use unit_tables::UnitView;
 
 // A struct definition and its type arguments.
 #[derive(Clone, Copy)]
-pub struct StructWith {
-    pub def: StructDef,
-    pub type_args: TypeList,
+pub struct StructWith<'a> {
+    pub def: StructDef<'a>,
+    pub type_args: SignatureView<'a>,
 }
 
 // A struct that is not generic: it has no type arguments.
 #[tactic(auto, using(crate::specs::Structs::plain_laws))]
-pub fn plain_struct(unit: &UnitView<'_>, idx: StructDefinitionIndex) -> PartialVMResult<StructWith>
-    ensures { ResultIs (WithIs unit.now.bytes.now) (defs.plain_struct (compiled unit.now) idx.0) result }
+pub fn plain_struct<'a>(
+    unit: &UnitView<'a>,
+    idx: StructDefinitionIndex,
+) -> PartialVMResult<StructWith<'a>>
+    ensures value { ResultIs WithIs (defs.plain_struct (compiled unit.now) idx.0) result }
+    ensures in_unit { IfOk result (WithIn unit.now.bytes.now) }
 {
     let def = unit_views::struct_def_at(unit, idx)?;
-    Ok(StructWith {
-        def,
-        type_args: TypeList { at: 0, count: 0 },
-    })
+    let type_args = unit_views::no_types(unit);
+    Ok(StructWith { def, type_args })
 }
 
 // A generic struct: its instantiation, its definition, and then its type arguments are looked up.
 #[tactic(auto, using(crate::specs::Structs::generic_laws))]
-pub fn generic_struct(
-    unit: &UnitView<'_>,
+pub fn generic_struct<'a>(
+    unit: &UnitView<'a>,
     idx: StructDefInstantiationIndex,
-) -> PartialVMResult<StructWith>
-    ensures { ResultIs (WithIs unit.now.bytes.now) (defs.generic_struct (compiled unit.now) idx.0) result }
+) -> PartialVMResult<StructWith<'a>>
+    ensures value { ResultIs WithIs (defs.generic_struct (compiled unit.now) idx.0) result }
+    ensures in_unit { IfOk result (WithIn unit.now.bytes.now) }
 {
     let inst = handle_views::struct_instantiation_at(unit, idx)?;
     let def = unit_views::struct_def_at(unit, inst.def)?;
@@ -80,17 +83,16 @@ pub fn check_ability(
     }
 }
 
-// The same of a struct with the type arguments that stand in the unit. It is not written out to be asked.
+// The same of a struct with these type arguments. It is not written out to be asked.
 #[tactic(auto, using(crate::specs::Checks::asked_laws))]
 pub fn check_struct_ability(
     unit: &UnitView<'_>,
     h: StructHandleIndex,
-    type_args: TypeList,
+    type_args: SignatureView,
     ability: Ability,
     status: StatusCode,
 ) -> PartialVMResult<()>
-    requires { TypesIn unit.now.bytes.now type_args }
-    ensures { (q : TypesIn unit.now.bytes.now type_args) → AbilityIs (compiled unit.now) (materialize_type h.0 q.types) ability status result }
+    ensures { (q : TypesIn type_args.entry) → AbilityIs (compiled unit.now) (materialize_type h.0 q.types) ability status result }
 {
     let set = ability_views::struct_abilities(unit, h, type_args)?;
     check_set(set, ability, status)

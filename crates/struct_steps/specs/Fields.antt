@@ -5,7 +5,7 @@ use Rattle.definitions.specs.Result.{ok}
 use Rattle.definitions.specs.SignatureToken.{Signature}
 use Rattle.definitions.specs.Substitution.{materialize_type, instantiate_each}
 use Rattle.definitions.specs.Machine.{Step, ◌>>=◌, ◌>>◌, look, push, pop_each, push_each}
-use Rattle.record_views.specs.declared.TypeList.{TypeList}
+use Rattle.signature_token.specs.declared.SignatureView.{SignatureView}
 use Rattle.record_views.specs.Records.{TypesIn}
 use Rattle.type_stack.specs.Stepping.{StepsTo}
 use Rattle.type_stack.specs.Answers.{Stepped}
@@ -23,8 +23,8 @@ unpack_fields ts as' = do
   fields ← look (instantiate_each ts as')
   push_each ok fields
 
-pub record PacksFields (s : List ℕ) (h : ℕ) (fields list : TypeList) (a : List ℕ) (w : ℕ) (b : List ℕ) (r : Stepped) : Type 0 where
-  pub steps : (p : TypesIn s fields) (q : TypesIn s list) → StepsTo (pack_fields h p.types q.types) a w b r
+pub record PacksFields (h : ℕ) (fields list : SignatureView) (a : List ℕ) (w : ℕ) (b : List ℕ) (r : Stepped) : Type 0 where
+  pub steps : (p : TypesIn fields) (q : TypesIn list) → StepsTo (pack_fields h p.types q.types) a w b r
 
-pub record UnpacksFields (s : List ℕ) (fields list : TypeList) (a : List ℕ) (w : ℕ) (b : List ℕ) (r : Stepped) : Type 0 where
-  pub steps : (p : TypesIn s fields) (q : TypesIn s list) → StepsTo (unpack_fields p.types q.types) a w b r
+pub record UnpacksFields (fields list : SignatureView) (a : List ℕ) (w : ℕ) (b : List ℕ) (r : Stepped) : Type 0 where
+  pub steps : (p : TypesIn fields) (q : TypesIn list) → StepsTo (unpack_fields p.types q.types) a w b r

@@ -8,12 +8,13 @@ use Rattle.status.specs.declared.StatusCode.TheVariants.{PACK_TYPE_MISMATCH_ERRO
 use Rattle.definitions.specs.Result.{Result, ok, err, ◌>>?◌}
 use Rattle.definitions.specs.SignatureToken.{SignatureToken, Signature, same}
 use Rattle.definitions.specs.CompiledUnit as defs
-use Rattle.definitions.specs.Substitution.{instantiate_each}
+use Rattle.definitions.specs.Substitution.{instantiate, instantiate_each}
 use Rattle.definitions.specs.Machine.{Step, ◌>>=◌, ◌>>◌, pop, look, push, pop_each, push_each}
 use Rattle.definitions.specs.TypeSafety.{declared_fields, struct_type, type_fields_signature, pop_expecting}
-use Rattle.record_views.specs.declared.TypeList.{TypeList}
+use Rattle.signature_token.specs.declared.SignatureView.{SignatureView}
 use Rattle.record_views.specs.declared.Fields.{Fields}
 use Rattle.record_views.specs.Records.{TypesIn, FieldsAre}
+use Rattle.type_places.specs.Arguments.{Arguments}
 use Rattle.type_places.specs.Places.{PlacedList}
 use Rattle.type_stack.specs.Held.{Here}
 use Rattle.type_stack.specs.Stepping.{StepsTo, look_then, look_bad, check_then, check_bad, pop_then, pop_none, and_then, and_bad, nested}
@@ -23,9 +24,8 @@ use Rattle.type_stack.specs.Answers.{Stepped}
 use Rattle.operand_steps.specs.Operands.{span}
 use Rattle.step_views.specs.declared.StructWith.{StructWith}
 use Rattle.step_views.specs.Looked.{StructIn, struct_types, with_type}
-use Rattle.list_steps.specs.declared.Form.TheVariants.{Instantiated}
 use Rattle.list_steps.specs.Forms.{PopsEach, PushesEach, InstantiatesEach, instantiates_of}
-use Rattle.list_steps.specs.Made.{arguments_of, pops_fields, pushes_fields}
+use Rattle.list_steps.specs.Made.{arguments_of, placed_types, pops_fields, pushes_fields}
 use Rattle.made_types.specs.Made.{StructIs, PushesStruct}
 use Rattle.struct_steps.specs.Fields.{pack_fields, unpack_fields, PacksFields, UnpacksFields}
 
@@ -35,22 +35,22 @@ use Rattle.struct_steps.specs.Fields.{pack_fields, unpack_fields, PacksFields, U
 abbrev fields_of : defs.StructFieldInformation → Signature → Result Signature
 fields_of x subst = declared_fields PACK_TYPE_MISMATCH_ERROR x >>? λ ts. instantiate_each ts subst
 
-module _ {s : List ℕ} {d : StructWith} (w : StructIn s d) where
+module _ {d : StructWith} (w : StructIn d) where
   -- of a native struct
   fields_none : d.def.fields ≡ Fields.Native → type_fields_signature w.struct ≡ err PACK_TYPE_MISMATCH_ERROR
   unfolding type_fields_signature ◌>>?◌
   fields_none i = go w.struct.def.field_information (rw i at w.is.def.fields)
     where
-      go : (x : defs.StructFieldInformation) → FieldsAre s x Fields.Native → fields_of x w.struct.type_args ≡ err PACK_TYPE_MISMATCH_ERROR
+      go : (x : defs.StructFieldInformation) → FieldsAre x Fields.Native → fields_of x w.struct.type_args ≡ err PACK_TYPE_MISMATCH_ERROR
       go defs.Native k = refl
       go (defs.Declared ts) k = absurd k
 
   -- of one that declares them
-  fields_some : {l : TypeList} → d.def.fields ≡ Fields.Declared l → (p : TypesIn s l) × (type_fields_signature w.struct ≡ instantiate_each p.types w.struct.type_args)
+  fields_some : {l : SignatureView} → d.def.fields ≡ Fields.Declared l → (p : TypesIn l) × (type_fields_signature w.struct ≡ instantiate_each p.types w.struct.type_args)
   unfolding type_fields_signature ◌>>?◌
   fields_some {l} i = go w.struct.def.field_information (rw i at w.is.def.fields)
     where
-      go : (x : defs.StructFieldInformation) → FieldsAre s x (Fields.Declared l) → (p : TypesIn s l) × (fields_of x w.struct.type_args ≡ instantiate_each p.types w.struct.type_args)
+      go : (x : defs.StructFieldInformation) → FieldsAre x (Fields.Declared l) → (p : TypesIn l) × (fields_of x w.struct.type_args ≡ instantiate_each p.types w.struct.type_args)
       go defs.Native k = absurd k
       go (defs.Declared ts) k = (record { types = ts; are = k }, refl)
 
@@ -59,19 +59,19 @@ module _ {s : List ℕ} {d : StructWith} (w : StructIn s d) where
     pub fields_bad : (k : Signature → Step) → d.def.fields ≡ Fields.Native → StepsTo (look (type_fields_signature w.struct) >>= k) a x a (Err PACK_TYPE_MISMATCH_ERROR)
     fields_bad k i = look_bad k (fields_none i)
 
-    module _ {l : TypeList} (i : d.def.fields ≡ Fields.Declared l) {b : List ℕ} {r : Stepped} where
-      pub pack_then : PacksFields s d.def.handle.0 l d.type_args a x b r →
+    module _ {l : SignatureView} (i : d.def.fields ≡ Fields.Declared l) {b : List ℕ} {r : Stepped} where
+      pub pack_then : PacksFields d.def.handle.0 l d.type_args a x b r →
           StepsTo (look (type_fields_signature w.struct) >>= (λ ts. pop_each PACK_TYPE_MISMATCH_ERROR ok (reverse ts) >> push (struct_type w.struct))) a x b r
       unfolding pack_fields
       pack_then f = let (p, k) = fields_some i in rw (k, ← with_type w) (f.steps p (struct_types w))
 
-      pub unpack_then : UnpacksFields s l d.type_args a x b r → StepsTo (look (type_fields_signature w.struct) >>= (λ ts. push_each ok ts)) a x b r
+      pub unpack_then : UnpacksFields l d.type_args a x b r → StepsTo (look (type_fields_signature w.struct) >>= (λ ts. push_each ok ts)) a x b r
       unfolding unpack_fields
       unpack_then f = let (p, k) = fields_some i in rw k (f.steps p (struct_types w))
 
   -- the operand is compared with the struct's type
   module _ {a : List ℕ} {x : ℕ} (k : Unit {0} → Step) where
-    module _ {o : Entry} (top : TopOf a x (Ok o)) {v : Bool} (f : StructIs a o.start o.len s d.def.handle.0 d.type_args v) where
+    module _ {o : Entry} (top : TopOf a x (Ok o)) {v : Bool} (f : StructIs a o.start o.len d.def.handle.0 d.type_args v) where
       struct_test : {t : SignatureToken} {y : Bool} → v ≡ y → Here a o.start o.len t → same t (struct_type w.struct) ≡ y
       struct_test {t} j h = ap (same t) (sym (with_type w)) ∙ sym (f.is (span h) (struct_types w)) ∙ j
 
@@ -87,15 +87,11 @@ module _ {s : List ℕ} {d : StructWith} (w : StructIn s d) where
     unfolding pop_expecting
     struct_none top = nested pop _ k (pop_none top _)
 
-  -- where the fields stand
-  pub found_fields : {l : TypeList} → d.def.fields ≡ Fields.Declared l → TypesIn s l
-  found_fields i = (fields_some i).0
-
 -- ── every field instantiated ──
 
-module _ {s : List ℕ} {fields list : TypeList} {bytes places : List ℕ} (d : PlacedList s list.at list.count bytes places) where
+module _ {fields list : SignatureView} {bytes places : List ℕ} (d : PlacedList list.types.bytes.now list.types.at list.types.count bytes places) where
   -- one is not
-  each_bad : {y : StatusCode} → InstantiatesEach s fields bytes places (Err y) → (p : TypesIn s fields) (q : TypesIn s list) → instantiate_each p.types q.types ≡ err y
+  each_bad : {y : StatusCode} → InstantiatesEach fields bytes places (Err y) → (p : TypesIn fields) (q : TypesIn list) → instantiate_each p.types q.types ≡ err y
   each_bad {y} i p q = go (instantiate_each p.types q.types) (i.is p (arguments_of q d))
     where
       go : (x : Result Signature) → Err y ≡ instantiates_of x → x ≡ err y
@@ -103,7 +99,7 @@ module _ {s : List ℕ} {fields list : TypeList} {bytes places : List ℕ} (d : 
       go (err z) h = cc
 
   -- all are
-  each_made : InstantiatesEach s fields bytes places (Ok tt) → (p : TypesIn s fields) (q : TypesIn s list) → (us : Signature) × (instantiate_each p.types q.types ≡ ok us)
+  each_made : InstantiatesEach fields bytes places (Ok tt) → (p : TypesIn fields) (q : TypesIn list) → (us : Signature) × (instantiate_each p.types q.types ≡ ok us)
   each_made i p q = go (instantiate_each p.types q.types) (i.is p (arguments_of q d))
     where
       go : (x : Result Signature) → Ok tt ≡ instantiates_of x → (us : Signature) × (x ≡ ok us)
@@ -111,26 +107,28 @@ module _ {s : List ℕ} {fields list : TypeList} {bytes places : List ℕ} (d : 
       go (err y) h = absurd cc
 
   module _ {a : List ℕ} {w : ℕ} where
-    pub pack_refused : {h : ℕ} {y : StatusCode} → InstantiatesEach s fields bytes places (Err y) → PacksFields s h fields list a w a (Err y)
+    pub pack_refused : {h : ℕ} {y : StatusCode} → InstantiatesEach fields bytes places (Err y) → PacksFields h fields list a w a (Err y)
     unfolding pack_fields
     pack_refused i = record { steps = λ p q. look_bad _ (each_bad i p q) }
 
-    pub unpack_refused : {y : StatusCode} → InstantiatesEach s fields bytes places (Err y) → UnpacksFields s fields list a w a (Err y)
+    pub unpack_refused : {y : StatusCode} → InstantiatesEach fields bytes places (Err y) → UnpacksFields fields list a w a (Err y)
     unfolding unpack_fields
     unpack_refused i = record { steps = λ p q. look_bad _ (each_bad i p q) }
 
-    module _ (i : InstantiatesEach s fields bytes places (Ok tt)) where
+    module _ (i : InstantiatesEach fields bytes places (Ok tt)) where
       -- the operands are the fields, or one of them is not
-      pub pack_bad : {h : ℕ} {y : StatusCode} → PopsEach Instantiated s fields bytes places PACK_TYPE_MISMATCH_ERROR a w (Err y) → PacksFields s h fields list a w a (Err y)
-      unfolding pack_fields
-      pack_bad f = record { steps = λ p q. let (us, m) = each_made i p q in look_then _ m (and_bad (pops_fields p (arguments_of q d) m f) _ refl) }
+      module _ (k : Arguments bytes places) {r : Stepped} (f : PopsEach (λ t. instantiate t k.subst) fields PACK_TYPE_MISMATCH_ERROR a w r) where
+        popped : (p : TypesIn fields) (q : TypesIn list) {us : Signature} → instantiate_each p.types q.types ≡ ok us → StepsTo (pop_each PACK_TYPE_MISMATCH_ERROR ok (reverse us)) a w a r
+        popped p q m = pops_fields p q.types m (rw (placed_types q d k) at f)
 
-      pub pack_made :
-          {h v : ℕ} {b : List ℕ} {y : Stepped} → PopsEach Instantiated s fields bytes places PACK_TYPE_MISMATCH_ERROR a w (Ok v) → PushesStruct s h list a v b y →
-          PacksFields s h fields list a w b y
-      unfolding pack_fields
-      pack_made f g = record { steps = λ p q. let (us, m) = each_made i p q in look_then _ m (and_then (pops_fields p (arguments_of q d) m f) _ refl (g.steps q)) }
+        pub pack_bad : {h : ℕ} {y : StatusCode} → r ≡ Err y → PacksFields h fields list a w a (Err y)
+        unfolding pack_fields
+        pack_bad e = record { steps = λ p q. let (us, m) = each_made i p q in look_then _ m (and_bad (popped p q m) _ e) }
 
-      pub unpack_made : {b : List ℕ} {x : Stepped} → PushesEach s fields bytes places a w b x → UnpacksFields s fields list a w b x
+        pub pack_made : {h v : ℕ} {b : List ℕ} {y : Stepped} → r ≡ Ok v → PushesStruct h list a v b y → PacksFields h fields list a w b y
+        unfolding pack_fields
+        pack_made e g = record { steps = λ p q. let (us, m) = each_made i p q in look_then _ m (and_then (popped p q m) _ e (g.steps q)) }
+
+      pub unpack_made : {b : List ℕ} {x : Stepped} → PushesEach fields bytes places a w b x → UnpacksFields fields list a w b x
       unfolding unpack_fields
       unpack_made f = record { steps = λ p q. let (us, m) = each_made i p q in look_then _ m (pushes_fields p (arguments_of q d) m f) }

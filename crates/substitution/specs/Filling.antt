@@ -38,7 +38,8 @@ pub record Fillings (ty : List ℕ) (at n : ℕ) (args places : List ℕ) : Type
   pub bytes : List ℕ
   pub is : filled_all from.types list.subst ≡ ok bytes
 
--- the bytes are there, and those from w on have room below `room`
+-- the bytes are there, and those from w on have room below `room`. `room` is the length of a slice that is written, which no struct with a ghost
+-- field can hold
 pub record Room (ty : List ℕ) (at : ℕ) (args places : List ℕ) (w room : ℕ) : Type 0 where
   pub filling : Filling ty at args places
   pub fits : w + length filling.bytes ≤ room
@@ -131,10 +132,6 @@ pub record ArgumentRoom (args : List ℕ) (from w room : ℕ) : Type 0 where
 -- an argument by its place
 pub placed_room : {args places : List ℕ} {i w room : ℕ} {t : TypeRef} → IsPlaced args places i t → ArgumentRoom args (get_or places i 0) w room → ArgumentRoom t.bytes.now t.at w room
 placed_room p m = rw (p.bytes, p.place) m
-
--- the same, where the argument's end is found
-pub argument_fits : {args : List ℕ} {from w room x : ℕ} → ArgumentRoom args from w room → EndOfType args from x → Fits args from (x - from) w room
-argument_fits m f = record { there = omega (arith, f m.type, type_room m.type); free = omega (arith, f m.type, m.fits) }
 
 whole_fits : {s : List ℕ} {at k o room : ℕ} {bytes : List ℕ} → Whole s at k bytes → o + length bytes ≤ room → Fits s at k o room
 whole_fits w l = record { there = w.room; free = omega (arith, w.long) }

@@ -1,4 +1,4 @@
--- The bytes of a type whose parameters are replaced, by what `token_at` found of it: each type gives its own command's bytes and then the
+-- The bytes of a type whose parameters are replaced, by what `token` found of it: each type gives its own command's bytes and then the
 -- bytes of the types below it, and a parameter gives the bytes of its argument. The laws are those of every walk: size, writer, comparison.
 use Rattle.std.specs.Prelude.{◌≡◌, refl, ℕ, zero, suc, ◌/◌, ◌%◌, ◌≤◌, ◌<◌, length, take, drop, get_or}
 use Rattle.std.proofs.Common.{sym, ◌∙◌, arith}
@@ -166,7 +166,7 @@ filled_struct : (h : ℕ) (subst : Signature) → filled (StructOf h) subst ≡ 
 unfolding filled instantiate ◌>>?◌
 filled_struct h subst = refl
 
--- ── types, by what `token_at` found ──
+-- ── types, by what `token` found ──
 
 -- the bytes between the start of what stands at `at` and the start of its last part
 front : {s : List ℕ} {at : ℕ} (bs cs : List ℕ) → At s at (bs ++ cs) → take (length bs) (drop at s) ≡ bs

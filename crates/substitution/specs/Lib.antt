@@ -5,4 +5,3 @@ pub mod Filling
 pub mod Size
 pub mod Opening
 pub mod Counting
-pub mod Past

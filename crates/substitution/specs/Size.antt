@@ -1,11 +1,11 @@
 -- How many bytes a type has whose parameters are replaced. The count stands still once it is over 65,535, the longest area, while the
 -- numbers of the parameters are tested to the end.
-use Rattle.std.specs.Prelude.{◌≡◌, refl, Result as Answer, Ok, Err, List, ℕ, ◌+◌, ◌-◌, ◌≤◌, min, length}
+use Rattle.std.specs.Prelude.{◌≡◌, refl, Result as Answer, Ok, Err, List, ℕ, ◌+◌, ◌≤◌, min, length}
 use Rattle.std.proofs.Common.{ap, ap₂, ◌∙◌, append-nil, arith, length-append}
 use Rattle.status.specs.declared.StatusCode.{StatusCode}
 use Rattle.definitions.specs.Result.{Result, ok, err, ◌>>?◌}
 use Rattle.definitions.specs.SignatureToken.{encode, encode_all}
-use Rattle.definitions.specs.Places.{TypeAt, TypesAt, EndOfType}
+use Rattle.definitions.specs.Places.{TypeAt, TypesAt}
 use Rattle.signature_token.specs.declared.Token.{Token}
 use Rattle.signature_token.specs.declared.Token.TheVariants.{Leaf}
 use Rattle.signature_token.specs.Token.{TokenAt}
@@ -108,8 +108,3 @@ one_size {at = at} f = record {
       f.is (one_type p) a
       ∙ ap₂ (size_from 0) (ap (λ (bs : List ℕ). at + length bs) (append-nil (encode p.type))) (filled_one p.type a.subst);
 }
-
--- ── arguments ──
-
-pub argument_added : {args : List ℕ} {from len e x : ℕ} → EndOfType args from e → Grown len (e - from) x → ArgumentSize args from len x
-argument_added f g = record { is = λ p. let h = g.is in omega (arith, f p) }

@@ -11,7 +11,7 @@ use status::{PartialVMResult, StatusCode};
 use type_places::TypePlaces;
 
 // Where a type ends, and how many bytes it has with its parameters replaced: 65,536 stands for any number over 65,535, more than an area
-// holds.
+// holds. Not an Option of a length: a long type is compared with the room like any other.
 #[derive(Clone, Copy)]
 pub struct Size {
     pub next: usize,
@@ -38,7 +38,8 @@ fn size_of_argument(argument: TypeRef, len: usize) -> usize
 }
 
 // `instantiate`: the size of the types together, their parameters replaced. A parameter's number past the arguments is refused. A type inside
-// another is counted as one more of those that are left, so that nothing calls itself.
+// another is counted as one more of those that are left, so that nothing calls itself; their number rises and falls, which no `for` counts.
+#[tactic(auto, using(crate::specs::Counting::counted_done))]
 pub fn instantiated_sizes(types: TypeList, args: TypePlaces) -> PartialVMResult<Size>
     ensures { SizesAt types.entry.bytes.now types.entry.at types.entry.count args.entry.bytes.now args.entry.places.now result }
 {
@@ -79,6 +80,7 @@ pub fn instantiated_sizes(types: TypeList, args: TypePlaces) -> PartialVMResult<
 }
 
 // The same of one type. A leaf has its own way, since most types are leaves: it saves the call into the walk.
+#[tactic(auto, using(crate::specs::Size::one_size, signature_token::specs::Passing::one_type))]
 pub fn instantiated_size(ty: TypeRef, args: TypePlaces) -> PartialVMResult<Size>
     ensures { SizeAt ty.entry.bytes.now ty.entry.at args.entry.bytes.now args.entry.places.now result }
 {

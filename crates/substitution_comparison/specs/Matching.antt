@@ -1,6 +1,7 @@
 -- How one loop compares bytes that stand elsewhere with those of a type whose parameters are replaced: at each turn some of them are matched, and what
 -- is left of the type gives the others.
-use Rattle.std.specs.Prelude.{◌≡◌, refl, Option, Some, None, List, [], ◌++◌, Bool, true, false, ℕ, ◌+◌, ◌-◌, ◌≤◌, ◌<◌, length, take, drop, get_or}
+use Rattle.std.specs.Prelude.{◌≡◌, refl, Option, Some, None, List, [], ◌++◌, Bool, true, false, ℕ, ◌+◌, ◌-◌, ◌≤◌, ◌<◌, length, take, drop, get_or, eqb}
+use Rattle.std.specs.List.{starts_with}
 use Rattle.std.proofs.Common.{sym, ◌∙◌, append-nil, arith, length-append}
 use Rattle.std.proofs.Math.Path.{ap}
 use Rattle.definitions.specs.Result.{Result, ok, ◌>>?◌}
@@ -17,8 +18,8 @@ use Rattle.signature_token.specs.TokenLaws.{wrapped_at, instantiation_at, none_i
 use Rattle.signature_token.specs.Lists.{Left, type_left}
 use Rattle.signature_token.specs.Passing.{one_type}
 use Rattle.signature_token.specs.declared.TypeRef.{TypeRef}
-use Rattle.type_places.specs.Arguments.{Arguments, IsPlaced}
-use Rattle.substitution.specs.Bytes.{Tells, at_append}
+use Rattle.type_places.specs.Arguments.{Arguments, PlacedAt}
+use Rattle.substitution.specs.Bytes.{Tells, start_told, part_is, at_append}
 use Rattle.substitution.specs.Instantiate.{filled, filled_all, filled_one, filled_none, after, after_nil, after_after, after_ok, argument_is, instantiated}
 use Rattle.substitution.specs.Opening.{Opened, leaf_opened, struct_opened, argument_opened, argument_none, inner_opened, arguments_opened}
 use Rattle.substitution_comparison.specs.declared.Match.{Match}
@@ -65,17 +66,20 @@ pub record SameFilled (s : List ℕ) (x : ℕ) (ty : List ℕ) (at : ℕ) (args 
 abbrev match_to : ℕ → ℕ → ℕ → Match
 match_to c y k = record { reached = c; next = y; left = k }
 
-module _ {s : List ℕ} {e : ℕ} {bs : List ℕ} {x j : ℕ} where
-  pub part_yes : Tells true (At s e bs) → e ≤ length s → PartMatched s e bs x j (Some (match_to (e + length bs) x j))
-  part_yes h o = record {
+module _ {s : List ℕ} {e : ℕ} {bs : List ℕ} {x j : ℕ} {b : Bool} (told : b ≡ starts_with eqb (take (length s - e) (drop e s)) bs) where
+  pub part_yes : b ≡ true → e ≤ length s → PartMatched s e bs x j (Some (match_to (e + length bs) x j))
+  part_yes k o = let h : Tells true (At s e bs) = start_told s e bs true (rw k at told) in record {
     yes = λ m z.
         let i : match_to (e + length bs) x j ≡ m = cc in
         rw (← i) (record { reached = refl; within = omega (arith, at_room h); stands = h }, refl, refl);
     no = λ z. absurd cc;
   }
 
-  pub part_no : Tells false (At s e bs) → PartMatched s e bs x j None
-  part_no h = record { yes = λ m z. absurd cc; no = λ z. h }
+  pub part_no : b ≡ false → PartMatched s e bs x j None
+  part_no k = record { yes = λ m z. absurd cc; no = λ z. start_told s e bs false (rw k at told) }
+
+-- `match_part`
+pub ruleset parts = (part_yes, part_no)
 
 -- ── an argument ──
 
@@ -116,35 +120,36 @@ first_matched bs opens m onward = record {
 }
 
 module _ {s : List ℕ} {e : ℕ} {ty : List ℕ} {p k : ℕ} {args places : List ℕ} (l : 0 < k) {token : Token} (w : TokenAt ty p token) where
-  pub leaf_first : {b : ℕ} {r : Option Match} → token ≡ Leaf b → PartMatched s e (take 1 (drop p ty)) (p + 1) (k - 1) r → FirstMatched s e ty p k args places r
-  leaf_first z m = first_matched (λ a. take 1 (drop p ty)) (λ q a. leaf_opened l (all_left q) a.subst w z) (λ a. m) (omega arith)
+  pub leaf_first : {b : ℕ} {r : Option Match} → token ≡ Leaf b → PartMatched s e (take (p + 1 - p) (drop p ty)) (p + 1) (k - 1) r → FirstMatched s e ty p k args places r
+  leaf_first z m = first_matched (λ a. take 1 (drop p ty)) (λ q a. leaf_opened l (all_left q) a.subst w z) (λ a. rw (part_is ty p 1) at m) (omega arith)
 
-  pub struct_first : {h : StructHandleIndex} {r : Option Match} → token ≡ Struct h → PartMatched s e (take 3 (drop p ty)) (p + 3) (k - 1) r → FirstMatched s e ty p k args places r
-  struct_first z m = first_matched (λ a. take 3 (drop p ty)) (λ q a. struct_opened l (all_left q) a.subst w z) (λ a. m) (omega arith)
+  pub struct_first : {h : StructHandleIndex} {r : Option Match} → token ≡ Struct h → PartMatched s e (take (p + 3 - p) (drop p ty)) (p + 3) (k - 1) r → FirstMatched s e ty p k args places r
+  struct_first z m = first_matched (λ a. take 3 (drop p ty)) (λ q a. struct_opened l (all_left q) a.subst w z) (λ a. rw (part_is ty p 3) at m) (omega arith)
 
-  pub wrapped_first : {v : Wrapper} {x : ℕ} {r : Option Match} → token ≡ Wrapped v x → TypesAt ty p k → PartMatched s e (take 1 (drop p ty)) x k r → FirstMatched s e ty p k args places r
+  pub wrapped_first : {v : Wrapper} {x : ℕ} {r : Option Match} → token ≡ Wrapped v x → TypesAt ty p k → PartMatched s e (take (p + 1 - p) (drop p ty)) x k r → FirstMatched s e ty p k args places r
   wrapped_first z q₀ m =
-      first_matched (λ a. take 1 (drop p ty)) (λ q a. inner_opened l (all_left q) a.subst w z) (λ a. m)
+      first_matched (λ a. take 1 (drop p ty)) (λ q a. inner_opened l (all_left q) a.subst w z) (λ a. rw (part_is ty p 1) at m)
       (omega (arith, (wrapped_at w (type_left l (all_left q₀)) z).place))
 
-  pub instantiation_first : {h : StructHandleIndex} {m x : ℕ} {r : Option Match} → token ≡ StructInstantiation h m x → TypesAt ty p k → PartMatched s e (take 4 (drop p ty)) x (k - 1 + m) r → FirstMatched s e ty p k args places r
-  instantiation_first z q₀ m =
-      first_matched (λ a. take 4 (drop p ty)) (λ q a. arguments_opened l (all_left q) a.subst w z) (λ a. m)
+  pub instantiation_first : {h : StructHandleIndex} {m x : ℕ} {r : Option Match} → token ≡ StructInstantiation h m x → TypesAt ty p k → PartMatched s e (take (p + 4 - p) (drop p ty)) x (k - 1 + m) r → FirstMatched s e ty p k args places r
+  instantiation_first z q₀ h =
+      first_matched (λ a. take 4 (drop p ty)) (λ q a. arguments_opened l (all_left q) a.subst w z) (λ a. rw (part_is ty p 4) at h)
       (omega (arith, (instantiation_at w (type_left l (all_left q₀)) z).place))
 
   -- a parameter gives its argument's bytes, or nothing
-  pub parameter_first : {i : ℕ} {t : TypeRef} {r : Option Match} → token ≡ TypeParameter i → IsPlaced args places i t →
+  pub parameter_first : {i : ℕ} {t : TypeRef} {r : Option Match} → token ≡ TypeParameter i → PlacedAt args places i (Some t) →
       ArgumentMatched s e t.bytes.now t.at (p + 3) (k - 1) r → FirstMatched s e ty p k args places r
-  parameter_first {i} z placed m =
-      let f = placed.within in
-      let h : ArgumentMatched s e args (get_or places i 0) (p + 3) (k - 1) _ = rw (placed.bytes, placed.place) at m in
+  parameter_first {i} {t} z placed m =
+      let here = placed.some t refl in
+      let f = here.within in
+      let h : ArgumentMatched s e args (get_or places i 0) (p + 3) (k - 1) _ = rw (here.bytes, here.place) at m in
       first_matched (λ a. encode (argument_is i f a.standing).type) (λ q a. argument_opened l (all_left q) a.subst w z (argument_is i f a.standing))
       (λ a. let g = argument_is i f a.standing in h.is (record { type = g.type; stands = g.stands })) (omega arith)
 
-  pub parameter_none : {i : ℕ} → token ≡ TypeParameter i → length places ≤ i → FirstMatched s e ty p k args places None
-  parameter_none z f = record {
+  pub parameter_none : {i : ℕ} → token ≡ TypeParameter i → PlacedAt args places i None → FirstMatched s e ty p k args places None
+  parameter_none z past = record {
     yes = λ m h. absurd cc;
-    no = λ h q a cs fill. let none = sym (argument_none l (all_left q) a.subst w z f a.standing) ∙ fill in absurd cc;
+    no = λ h q a cs fill. let none = sym (argument_none l (all_left q) a.subst w z (past.none refl) a.standing) ∙ fill in absurd cc;
   }
 
 -- ── the loop ──

@@ -10,7 +10,8 @@ use signature_token::{Token, TypeList, TypeRef};
 use status::PartialVMResult;
 use type_places::TypePlaces;
 
-// What a type gives stands at a place of other bytes: where it ends there, where the next type stands, and how many types are left.
+// What a type gives stands at a place of other bytes: where it ends there, where the next type stands, and how many types are left. That the place is
+// within the bytes is asked of each turn, since the bytes and a place in them are two values of the loop.
 #[derive(Clone, Copy)]
 struct Match {
     reached: usize,
@@ -19,6 +20,7 @@ struct Match {
 }
 
 // The match of the part with the bytes at e of s, if they are the same. `next` and `left` are handed on.
+#[tactic(auto, using(crate::specs::Matching::parts))]
 fn match_part(s: &[u8], e: usize, part: &[u8], next: usize, left: usize) -> Option<Match>
     requires { e ≤ length s.now }
     ensures { PartMatched s.now e part.now next left result }
@@ -34,6 +36,7 @@ fn match_part(s: &[u8], e: usize, part: &[u8], next: usize, left: usize) -> Opti
 }
 
 // The same of the argument that takes a parameter's place.
+#[tactic(auto, using(crate::specs::Matching::argument_matched))]
 fn match_argument(s: &[u8], e: usize, argument: TypeRef, next: usize, left: usize) -> Option<Match>
     requires { e ≤ length s.now }
     ensures { ArgumentMatched s.now e argument.entry.bytes.now argument.entry.at next left result }
@@ -64,7 +67,8 @@ fn match_first(s: &[u8], e: usize, types: TypeList, args: TypePlaces) -> Option<
 }
 
 // Whether the type that was found is the other one, its parameters replaced. There is no such type where a parameter's number is past the
-// arguments. Where the first ends is not asked: bytes begin with one type at most.
+// arguments. Where the first ends is not asked: bytes begin with one type at most. How many types are left rises and falls, which no `for` counts.
+#[tactic(auto, using(crate::specs::Matching::agreed_no))]
 fn same_instantiated(found: TypeRef, ty: TypeRef, args: TypePlaces) -> bool
     ensures { SameFilled found.entry.bytes.now found.entry.at ty.entry.bytes.now ty.entry.at args.entry.bytes.now args.entry.places.now result }
 {
@@ -102,6 +106,7 @@ fn compare_walked(found: TypeRef, ty: TypeRef, args: TypePlaces) -> PartialVMRes
 
 // `instantiate` and `==`: whether the type that was found is the other one, its parameters replaced. A parameter's number past the arguments
 // comes first. A leaf has its own way, since most types are leaves: it saves the calls into the walks.
+#[tactic(auto, using(crate::specs::Compare::leaf_compared))]
 pub fn compare_instantiated(found: TypeRef, ty: TypeRef, args: TypePlaces) -> PartialVMResult<bool>
     ensures { ComparedAt found.entry.bytes.now found.entry.at ty.entry.bytes.now ty.entry.at args.entry.bytes.now args.entry.places.now result }
 {

@@ -1,5 +1,5 @@
 -- What the writer of a type leaves whose parameters are replaced: its bytes, from a place on, and all else as it was.
-use Rattle.std.specs.Prelude.{◌≡◌, refl, List, ◌++◌, ℕ, ◌+◌, ◌-◌, ◌≤◌, ◌<◌, length, take, drop, set, get_or}
+use Rattle.std.specs.Prelude.{◌≡◌, refl, Option, Some, List, ◌++◌, ℕ, ◌+◌, ◌-◌, ◌≤◌, ◌<◌, length, take, drop, set, get_or}
 use Rattle.std.proofs.Common.{sym, ap, ◌∙◌, arith, length-append}
 use Rattle.std.proofs.lemmas.List.Edits.{sets}
 use Rattle.std.proofs.Math.Seq.{length-sets}
@@ -14,9 +14,9 @@ use Rattle.signature_token.specs.Token.{TokenAt, at_some}
 use Rattle.signature_token.specs.TokenLaws.{leaf_byte}
 use Rattle.signature_token.specs.Ends.{leaf_end, struct_end, parameter_end}
 use Rattle.signature_token.specs.declared.TypeRef.{TypeRef}
-use Rattle.type_places.specs.Arguments.{IsPlaced}
+use Rattle.type_places.specs.Arguments.{PlacedAt}
 use Rattle.substitution_writer.specs.declared.Reached.{Reached}
-use Rattle.substitution.specs.Bytes.{over, sets_over, sets_append, Put, byte_put}
+use Rattle.substitution.specs.Bytes.{over, sets_over, sets_append, Put, part_put, byte_put}
 use Rattle.substitution.specs.Filling.{Filling, Fillings, Room, Rooms, Whole, Below, leaf_whole, struct_whole, wrapped_below, instantiation_below, parameter_replaced, Gone, gone_start, gone_next, gone_end, gone_bytes, turn_filling, turn_room}
 
 -- ── the words ──
@@ -64,28 +64,34 @@ wrote_below {s} {at} {k} {w} {bytes} {below} {d} h c v n = record {
   now = v.now ∙ rw (c.now, c.reached, sets_append d w (take k (drop at s)) below, h.is);
 }
 
-module _ {ty : List ℕ} {at : ℕ} {r : Token} (t : TokenAt ty at r) {args places : List ℕ} {w : ℕ} {d d₁ : List ℕ} {e : ℕ} where
-  pub leaf_wrote : {b : ℕ} → r ≡ Leaf b → Put d w (take 1 (drop at ty)) d₁ e → WroteFrom ty at args places w d d₁ (at_end (at + 1) e)
-  leaf_wrote k c = record { is = λ f. wrote_whole (leaf_whole t f k) c (leaf_end t k f.from) }
+module _ {ty : List ℕ} {at : ℕ} {r : Token} (t : TokenAt ty at r) {args places : List ℕ} {w : ℕ} {d : List ℕ} where
+  -- the command is stored
+  pub leaf_wrote : {b : ℕ} → r ≡ Leaf b → TypeAt ty at → WroteFrom ty at args places w d (set d w b) (at_end (at + 1) (w + 1))
+  leaf_wrote k p =
+      let c = rw (leaf_byte t p k) at (byte_put d w ty at (at_some p)) in
+      record { is = λ f. wrote_whole (leaf_whole t f k) c (leaf_end t k f.from) }
 
-  pub struct_wrote : {h : StructHandleIndex} → r ≡ Struct h → Put d w (take 3 (drop at ty)) d₁ e → WroteFrom ty at args places w d d₁ (at_end (at + 3) e)
-  struct_wrote k c = record { is = λ f. wrote_whole (struct_whole t f k) c (struct_end t k f.from) }
+  pub struct_wrote :
+      {h : StructHandleIndex} {d₁ : List ℕ} {e : ℕ} → r ≡ Struct h → Put d w (take (at + 3 - at) (drop at ty)) d₁ e →
+      WroteFrom ty at args places w d d₁ (at_end (at + 3) e)
+  struct_wrote k c = record { is = λ f. wrote_whole (struct_whole t f k) (part_put ty at 3 c) (struct_end t k f.from) }
 
   pub wrapped_wrote :
-      {v : Wrapper} {x : ℕ} {d₂ : List ℕ} {z : Reached} → r ≡ Wrapped v x → Put d w (take 1 (drop at ty)) d₁ e → WroteFrom ty x args places e d₁ d₂ z →
-      WroteFrom ty at args places w d d₂ z
-  wrapped_wrote k c v = record { is = λ f. let i = wrapped_below t f k in wrote_below i.below c (v.is i.inner) i.ends }
+      {v : Wrapper} {x : ℕ} {d₂ : List ℕ} {z : Reached} → r ≡ Wrapped v x → TypeAt ty at →
+      WroteFrom ty x args places (w + 1) (set d w (get_or ty at 0)) d₂ z → WroteFrom ty at args places w d d₂ z
+  wrapped_wrote k p v = record { is = λ f. let i = wrapped_below t f k in wrote_below i.below (byte_put d w ty at (at_some p)) (v.is i.inner) i.ends }
 
   pub instantiation_wrote :
-      {h : StructHandleIndex} {n x : ℕ} {d₂ : List ℕ} {z : Reached} → r ≡ StructInstantiation h n x → Put d w (take 4 (drop at ty)) d₁ e →
+      {h : StructHandleIndex} {n x : ℕ} {d₁ d₂ : List ℕ} {e : ℕ} {z : Reached} → r ≡ StructInstantiation h n x → Put d w (take (at + 4 - at) (drop at ty)) d₁ e →
       WroteAllFrom ty x n args places e d₁ d₂ z → WroteFrom ty at args places w d d₂ z
-  instantiation_wrote k c v = record { is = λ f. let i = instantiation_below t f k in wrote_below i.below c (v.is i.inner) i.ends }
+  instantiation_wrote k c v = record { is = λ f. let i = instantiation_below t f k in wrote_below i.below (part_put ty at 4 c) (v.is i.inner) i.ends }
 
   pub parameter_wrote :
-      {j : ℕ} {a : TypeRef} → r ≡ TypeParameter j → IsPlaced args places j a → ArgumentWritten a.bytes.now a.at w d d₁ e →
+      {j : ℕ} {o : Option TypeRef} {a : TypeRef} {d₁ : List ℕ} {e : ℕ} → r ≡ TypeParameter j → PlacedAt args places j o → o ≡ Some a → ArgumentWritten a.bytes.now a.at w d d₁ e →
       WroteFrom ty at args places w d d₁ (at_end (at + 3) e)
-  parameter_wrote {j} k placed written = record {
+  parameter_wrote {j} {a = a} {d₁ = d₁} {e = e} k found some written = record {
     is = λ f.
+        let placed = found.some a some in
         let c : ArgumentWritten args (get_or places j 0) w d d₁ e = rw (placed.bytes, placed.place) at written in
         let i = parameter_replaced t f k in
         let p : TypeAt args (get_or places j 0) = record { type = i.type; stands = i.stands } in
@@ -169,4 +175,7 @@ wrote_at {ty} {at} {args} {places} {d} v = record {
 pub leaf_at_front :
     {ty : List ℕ} {at : ℕ} {r : Token} {args places d : List ℕ} {b : ℕ} → TokenAt ty at r → TypeAt ty at → r ≡ Leaf b →
     WroteAt ty at args places d (set d 0 b) (at_end (at + 1) 1)
-leaf_at_front {ty} {at} {r} {args} {places} {d} t p e = wrote_at (leaf_wrote t e (rw (leaf_byte t p e) at (byte_put d 0 ty at (at_some p))))
+leaf_at_front t p e = wrote_at (leaf_wrote t e p)
+
+-- `write_types`
+pub ruleset writing = (writing_start, writing_next, writing_done)

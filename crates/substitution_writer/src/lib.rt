@@ -17,7 +17,9 @@ pub struct Reached {
     pub end: usize,
 }
 
-// Writes the bytes into out at w. Answers where they end there.
+// Writes the bytes into out at w. Answers where they end there. Out is lent whole with w beside it, and not its rest: where the bytes end is counted
+// from its start.
+#[tactic(auto, using(substitution::specs::Bytes::copied))]
 fn put(out: &mut [u8], w: usize, bytes: &[u8]) -> usize
     requires { w + length bytes.now ≤ length out.old }
     ensures { Put out.old w bytes.now out.new result }
@@ -28,6 +30,7 @@ fn put(out: &mut [u8], w: usize, bytes: &[u8]) -> usize
 }
 
 // Writes the argument into out at w.
+#[tactic(auto, using(crate::specs::Write::argument_wrote))]
 fn write_argument(out: &mut [u8], w: usize, argument: TypeRef) -> usize
     requires { ArgumentRoom argument.bytes.now argument.at w (length out.old) }
     ensures { ArgumentWritten argument.entry.bytes.now argument.entry.at w out.old out.new result }
@@ -38,6 +41,7 @@ fn write_argument(out: &mut [u8], w: usize, argument: TypeRef) -> usize
 
 // Writes the type, its parameters replaced, into out at w.
 #[cycle(write_type_write_types)]
+#[tactic(auto, using(crate::specs::Write::leaf_wrote))]
 fn write_type(out: &mut [u8], w: usize, ty: TypeRef, args: TypePlaces) -> Reached
     requires { Room ty.bytes.now ty.at args.bytes.now args.places.now w (length out.old) }
     ensures { WroteFrom ty.entry.bytes.now ty.entry.at args.entry.bytes.now args.entry.places.now w out.old out.new result }
@@ -78,6 +82,7 @@ fn write_type(out: &mut [u8], w: usize, ty: TypeRef, args: TypePlaces) -> Reache
 
 // The same of the types of a list.
 #[cycle(write_type_write_types)]
+#[tactic(auto, using(crate::specs::Write::writing))]
 fn write_types(out: &mut [u8], w: usize, types: TypeList, args: TypePlaces) -> Reached
     requires { Rooms types.bytes.now types.at types.count args.bytes.now args.places.now w (length out.old) }
     ensures { WroteAllFrom types.entry.bytes.now types.entry.at types.entry.count args.entry.bytes.now args.entry.places.now w out.old out.new result }
@@ -98,6 +103,7 @@ fn write_types(out: &mut [u8], w: usize, types: TypeList, args: TypePlaces) -> R
 
 // `instantiate`: writes the type, its parameters replaced, to the front of out. A leaf has its own way, since most types are leaves: it saves
 // the call into the walk.
+#[tactic(auto, using(crate::specs::Write::wrote_at, crate::specs::Write::leaf_at_front))]
 pub fn instantiate_into(out: &mut [u8], ty: TypeRef, args: TypePlaces) -> Reached
     requires { Room ty.bytes.now ty.at args.bytes.now args.places.now 0 (length out.old) }
     ensures { WroteAt ty.entry.bytes.now ty.entry.at args.entry.bytes.now args.entry.places.now out.old out.new result }

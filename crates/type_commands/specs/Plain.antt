@@ -49,14 +49,7 @@ plain_width b = width_by (opened b)
 abbrev pub wrapping : ℕ → ℕ
 wrapping b = around_by (opened b)
 
--- ── how large they are ──
-
-pub width_most : (command : TypeCommand) → width_by command ≤ 3
-width_most (leaf t) = omega arith
-width_most (over f) = omega arith
-width_most (TypeCommand.index f) = omega arith
-width_most instantiation = omega arith
-width_most TypeCommand.unknown = omega arith
+-- ── how large it is ──
 
 pub around_most : (command : TypeCommand) → around_by command ≤ 1
 around_most (leaf t) = omega arith

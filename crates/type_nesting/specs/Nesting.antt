@@ -1,4 +1,4 @@
--- How deep a type nests, by what `token_at` found of it, and how deep the types of a list do.
+-- How deep a type nests, by what `token` found of it, and how deep the types of a list do.
 use Rattle.std.specs.Prelude.{◌≡◌, refl, List, ℕ, ◌+◌, ◌≤◌, ◌<◌, max, length}
 use Rattle.std.proofs.Math.Path.{sym, ap}
 use Rattle.std.proofs.Common.{◌∙◌, arith, length-append}

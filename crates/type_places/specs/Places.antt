@@ -92,6 +92,3 @@ pub record PlacedList (s : List ℕ) (at n : ℕ) (bytes places : List ℕ) : Ty
 module _ {s : List ℕ} {at n : ℕ} {out : List ℕ} {r : ℕ} (p : PlacesAt s at n out r) where
   pub placed_arguments : TypesAt s at n → Arguments s (take n out)
   placed_arguments q = record { subst = list_of q.types; standing = p.standing q }
-
-  pub placed_list : PlacedList s at n s (take n out)
-  placed_list = record { same = refl; standing = λ q. p.standing q }

@@ -2,8 +2,6 @@
 #![tactic(auto)]
 
 ghost use Rattle.std.specs.Prelude.{◌≡◌, ◌≤◌, length};
-ghost use Rattle.definitions.specs.Places.{TypesAt, Standing};
-ghost use Rattle.theorems.specs.Bytes.{list_of};
 ghost use Rattle.type_places.specs.Arguments.{Arguments, Arguments-prop, PlacedAt};
 ghost use Rattle.type_places.specs.Places.{PlacesAt, PlacedList};
 
@@ -38,13 +36,13 @@ pub fn type_places(types: TypeList, out: &mut [u16]) -> usize
     let bytes = types.bytes;
     let mut at = types.at;
     for i in 0..types.count {
-        out[i] = at as u16;
+        out[i] = at as u16; // fits, which is proved: `TryFrom` would ask at run time
         at = TypeRef { bytes, at }.end();
     }
     at
 }
 
-// The types of the list by their places, which out has room for.
+// The types of the list by their places, which out has room for. Callers lend an array of their own, as long as a list can be: no heap is used.
 pub fn placed<'a>(types: TypeList<'a>, out: &'a mut [u16]) -> TypePlaces<'a>
     requires { (types.count ≤ length out.old) × (length types.bytes.now ≤ 65536) }
     ensures { PlacedList types.entry.bytes.now types.entry.at types.entry.count result.bytes.now result.places.now }

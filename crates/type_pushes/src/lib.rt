@@ -19,7 +19,8 @@ pub fn put_command(area: &mut [u8], weight: usize, command: u8)
     area[weight] = command;
 }
 
-// The first byte of a reference, mutable or not.
+// The first byte of a reference, mutable or not. `mutable` is the Rust's own parameter `mut_` of the borrows, and the definitions' too: a type for
+// its two values would be made of it by each caller.
 #[tactic(auto, using(crate::specs::References::commands))]
 pub fn reference_command(mutable: bool) -> u8
     ensures { ReferenceCommand mutable result }
@@ -35,12 +36,15 @@ pub fn seal(area: &mut [u8], weight: usize, len: usize) -> usize
     requires { (weight + (len + 2) ≤ length area.old) × (len ≤ 65535) }
     ensures { (result ≡ weight + (len + 2)) × (area.new ≡ spliced area.old (weight + len) (le16 len)) }
 {
-    area[weight + len] = (len % 256) as u8;
-    area[weight + len + 1] = (len / 256) as u8;
+    let [low, high] = (len as u16).to_le_bytes(); // no bit is lost, which is proved
+    area[weight + len] = low;
+    area[weight + len + 1] = high;
     weight + (len + 2)
 }
 
-// Pushes the type of one byte.
+// Pushes the type of one byte. Whether there is room is tested here and in each push, in a line: asked of a function it would take that line and its
+// promise.
+#[tactic(auto, using(type_stack::specs::Pushing::pushing))]
 pub fn push_leaf(area: &mut [u8], weight: usize, command: u8) -> PartialVMResult<usize>
     requires { Stacked area.old weight }
     ensures { PushesTo (command ∷ []) area.old weight area.new result }
@@ -54,6 +58,7 @@ pub fn push_leaf(area: &mut [u8], weight: usize, command: u8) -> PartialVMResult
 
 // Pushes the type that stands at weight, up to `to`, with another first byte, and with room for a length behind it. FreezeRef's: the
 // popped reference, immutable.
+#[tactic(auto, using(type_stack::specs::Pushing::pushing))]
 pub fn push_retagged(area: &mut [u8], weight: usize, tag: u8, to: usize) -> PartialVMResult<usize>
     requires stacked { Stacked area.old weight }
     requires weight_lt_to { (weight < to) × (to + 2 ≤ length area.old) }

@@ -93,10 +93,6 @@ in_blocks_start u {a} l = record { same = refl; stacked = empty_stacked a l; lea
 pub clean_start : (u : CompiledUnit) (n : ℕ) → CleanSoFar u n 0 0
 clean_start u n = record { none = refl; rest = λ c. c }
 
--- a refusal is not clean
-pub types_refused : {u : CompiledUnit} {n : ℕ} {v : Verdict} → v ≡ type_safety u n → TypesOf u n (record { verdict = v; clean = false })
-types_refused k = record { verdict = k; clean = λ e. let z : ◌≡◌ {A = ℕ} 0 1 = cc in absurd (omega arith) }
-
 -- a walk that ends with a stack of no weight ends with none
 weightless : (s : Stack) → 0 ≡ weight s → s ≡ []
 unfolding weight
@@ -135,13 +131,14 @@ module _ {u : CompiledUnit} {a b : List ℕ} {v i : ℕ} (inv : InBlocks u a b v
         let walked : walk_block u (length a) k [] ≡ stands [] = nothing_left d _ (rw zero at ((block_goes z).ends [] (rw here.none (held_none b)))) in
         record { none = zero; rest = λ c. here.rest (rw (from_place u.blocks i listed) (block walked refl (rw (add-one i) at c))) }
 
-    -- a refusal ends the walk with its verdict
+    -- a refusal ends the walk with its verdict, and is not clean
     pub in_blocks_stopped :
-        {e : Stopped} → Walks (λ n. walk_block u n k) b v d (Err e) → (e.offset < 65536) × (refusal e.status (Instruction e.offset) ≡ type_safety u (length a))
-    in_blocks_stopped z = (
-      z.near,
-      types_verdict_law u (length a) (walk_out (rw (from_place u.blocks i listed) at inv.leads) (block_stopped u (length a) k _ (block_goes z) refl)),
-    )
+        {e : Stopped} {r : Verdict} → Walks (λ n. walk_block u n k) b v d (Err e) → r ≡ refusal e.status (Instruction e.offset) →
+        TypesOf u (length a) (record { verdict = r; clean = false })
+    in_blocks_stopped z r = record {
+      verdict = r ∙ types_verdict_law u (length a) (walk_out (rw (from_place u.blocks i listed) at inv.leads) (block_stopped u (length a) k _ (block_goes z) refl));
+      clean = λ e. let z : ◌≡◌ {A = ℕ} 0 1 = cc in absurd (omega arith);
+    }
 
   -- behind the last block
   pub in_blocks_end : {clean : Bool} → length u.blocks ≤ i → (clean ≡ true → CleanSoFar u (length a) v i) → TypesOf u (length a) (record { verdict = Accepted; clean = clean })

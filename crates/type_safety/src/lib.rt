@@ -17,7 +17,8 @@ use status::{Position, Verdict};
 use type_stack::{Stopped, Walk};
 use unit_tables::UnitView;
 
-// The verdict of types, and whether the walk was clean: no instruction was refused, and the stack was empty after each block.
+// The verdict of types, and whether the walk was clean: no instruction was refused, and the stack was empty after each block. The verdict has its
+// meaning either way, so that the flag makes no Option of it.
 #[derive(Clone, Copy)]
 pub struct Types {
     pub verdict: Verdict,
@@ -25,6 +26,7 @@ pub struct Types {
 }
 
 // A block, from the stack that the last one left.
+#[tactic(auto, using(crate::specs::Walks::in_block_refused))]
 fn verify_block(area: &mut [u8], weight: usize, locals: &Locals<'_>, block: Block) -> Walk
     requires stacked { Stacked area.old weight }
     requires first_le_last { (block.first ≤ block.last) × (block.last < locals.now.unit.view.code.count) }
@@ -75,7 +77,7 @@ fn verify_blocks(area: &mut [u8], locals: &Locals<'_>) -> Types
     }
 }
 
-// `verify`.
+// `verify`. The places are kept in two arrays, since no heap is used.
 pub fn verify(area: &mut [u8], unit: &UnitView<'_>) -> Types
     requires { length area.old ≤ 65535 }
     ensures { TypesOf (compiled unit.now) (length area.old) result }

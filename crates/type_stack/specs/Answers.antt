@@ -4,7 +4,6 @@ use Rattle.std.specs.Result.{IsErrAnd}
 use Rattle.std.proofs.Common.{ap, ◌∙◌}
 use Rattle.std.proofs.lemmas.Result.{err_from_is_err_and}
 use Rattle.status.specs.declared.StatusCode.{StatusCode}
-use Rattle.status.specs.declared.StatusCode.TheVariants.{EMPTY_STACK}
 use Rattle.type_stack.specs.declared.Entry.{Entry}
 use Rattle.type_stack.specs.declared.Stopped.{Stopped}
 

@@ -21,7 +21,8 @@ pub record Holds (area : List ℕ) (w : ℕ) (s : Stack) : Type 0 where
   pub weighs : w ≡ weight s
   pub fits : w ≤ length area
 
--- what every step is lent: an area of at most 65,535 bytes whose first w hold some stack
+-- what every step is lent: an area of at most 65,535 bytes whose first w hold some stack. Area and weight are two parameters, and no struct with
+-- this as its ghost field: most steps write the area, and the prover does not cover a ghost field beside a `&mut`
 pub record Stacked (area : List ℕ) (w : ℕ) : Type 0 where
   pub stack : Stack
   pub holds : Holds area w stack

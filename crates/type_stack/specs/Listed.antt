@@ -7,10 +7,10 @@ use Rattle.std.proofs.Common.{arith}
 use Rattle.std.proofs.Math.Decide.{dec_le}
 use Rattle.std.proofs.Math.Nat.{suc-mul}
 use Rattle.status.specs.declared.StatusCode.{StatusCode}
-use Rattle.status.specs.declared.StatusCode.TheVariants.{EMPTY_STACK, NO_ROOM}
+use Rattle.status.specs.declared.StatusCode.TheVariants.{NO_ROOM}
 use Rattle.definitions.specs.Result.{Result, ok, err}
 use Rattle.definitions.specs.SignatureToken.{SignatureToken, Signature, encode}
-use Rattle.definitions.specs.Machine.{◌>>=◌, pop, look, push, pop_one, pop_each, push_one, push_each, pop_n, push_n, Stack, weight, run}
+use Rattle.definitions.specs.Machine.{◌>>=◌, pop, look, push, pop_one, pop_each, push_one, push_each, pop_n, push_n, Stack, run}
 use Rattle.type_stack.specs.Held.{Holds, popped}
 use Rattle.type_stack.specs.Tops.{TopOf, top_of}
 use Rattle.type_stack.specs.Stepping.{StepsTo, and_bad, pop_none}

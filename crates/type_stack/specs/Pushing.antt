@@ -71,3 +71,6 @@ push_retagged {a} {w} {to} c k f p =
     let l : length bs ≡ to - (w + 1) = length-take-le (to - (w + 1)) (drop (w + 1) a) (omega (arith, length-drop (w + 1) a)) in
     let h : At a (w + 1) bs = record { rest = drop (to - (w + 1)) (drop (w + 1) a); here = sym (take-append-drop (to - (w + 1)) (drop (w + 1) a)) } in
     push_sealed (c ∷ bs) (omega arith) (omega arith) (p ∙ spliced_stands a w (c ∷ []) bs h)
+
+-- what a push answers that finds no room, and one that wrote an entry
+pub ruleset pushing = (push_over, push_sealed, push_entered, push_under, push_retagged)

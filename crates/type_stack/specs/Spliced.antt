@@ -1,7 +1,6 @@
 -- A list with some of its elements written over, and how writes one behind the other make one: what the pushes write, piece by piece.
-use Rattle.std.specs.Prelude.{◌≡◌, List, [], ◌∷◌, ◌++◌, ℕ, ◌+◌, ◌-◌, ◌≤◌, ◌<◌, length, take, drop, set}
-use Rattle.std.proofs.Common.{ap, sym, ◌∙◌, append_assoc, append-nil, arith, add-one, length-append, length-drop, drop_of_length-le, take_all, take_at, drop_at, drop-drop, length-take-le}
-use Rattle.std.proofs.lemmas.List.Edits.{sets-eq}
+use Rattle.std.specs.Prelude.{◌≡◌, List, [], ◌++◌, ℕ, ◌+◌, ◌-◌, ◌≤◌, length, take, drop}
+use Rattle.std.proofs.Common.{ap, sym, ◌∙◌, append_assoc, append-nil, arith, length-append, length-drop, drop_of_length-le, take_all, take_at, drop_at, drop-drop, length-take-le}
 use Rattle.std.proofs.Math.Seq.{drop-append_seam}
 use Rattle.std.proofs.Math.Seq.{paste}
 use borrow.Rule.Slice.PartMut.{put_mid}
@@ -49,14 +48,6 @@ module _ (a : List ℕ) (w : ℕ) (bs : List ℕ) where
     spliced_stands h =
         let d : drop (w + length bs + length cs) a ≡ h.rest = sym (drop-drop (length cs) (w + length bs) a) ∙ ap (drop (length cs)) h.here ∙ drop-append_seam cs h.rest in
         rw (h.here, end, d) (sym (append_assoc (take w a ++ bs) cs h.rest) ∙ regrouped h.rest)
-
--- one byte
-pub stored : (a : List ℕ) (w b : ℕ) → w < length a → set a w b ≡ spliced a w (b ∷ [])
-stored a w b h = sets-eq (b ∷ []) a w (omega arith)
-
--- two bytes, one behind the other
-pub stored_two : (a : List ℕ) (w b c : ℕ) → w + 2 ≤ length a → set (set a w b) (w + 1) c ≡ spliced a w (b ∷ c ∷ [])
-stored_two a w b c h = rw (add-one w) (sets-eq (b ∷ c ∷ []) a w h)
 
 -- what was written to the front of the part from w on
 pub lent : (a : List ℕ) {d : List ℕ} (bs : List ℕ) (w : ℕ) → d ≡ over bs (take (length a - w) (drop w a)) → put_mid w (length a - w) a d ≡ spliced a w bs

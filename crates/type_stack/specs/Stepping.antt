@@ -3,7 +3,7 @@
 -- answer after.
 use Rattle.std.proofs.Math.Path.{◌≡◌, ap}
 use Rattle.std.specs.Prelude.{refl, Bool, ℕ, ◌+◌, ◌≤◌, ◌<◌}
-use Rattle.std.proofs.Common.{sym, ◌∙◌}
+use Rattle.std.proofs.Common.{◌∙◌}
 use mathlib.Core.List.{List, [], ◌∷◌}
 use Rattle.std.proofs.Math.Bool.{true, false}
 use native.Mathlib.Omega.{arith}
@@ -69,6 +69,14 @@ module _ {a : List ℕ} {w : ℕ} where
 
 -- ── pops ──
 
+-- a program that begins with a pop
+pub data IsPop : Step → Type 0 where
+  takes : (f : SignatureToken → Step) → IsPop (pop >>= f)
+
+pops_nothing : {p : Step} (n : ℕ) → IsPop p → run n p [] ≡ refused EMPTY_STACK
+unfolding run ◌>>=◌ pop
+pops_nothing n (takes f) = refl
+
 module _ {a : List ℕ} {w : ℕ} where
   pub pop_none : {v : StatusCode} → TopOf a w (Err v) → (f : SignatureToken → Step) → StepsTo (pop >>= f) a w a (Err v)
   unfolding run ◌>>=◌ pop Agrees top_of
@@ -91,14 +99,18 @@ module _ {a : List ℕ} {w : ℕ} where
           let n = same_ok (p.is (t ∷ s) h) in
           (k t (record { at = rw (start_is n) o.here; long = len_is n })).agrees s (rw (start_is n) o.below)
 
-  pub two_none : {v : StatusCode} → TopTwoOf a w (Err v) → (f : SignatureToken → SignatureToken → Step) → StepsTo (pop >>= (λ t. pop >>= f t)) a w a (Err v)
+  pub two_refused :
+      {v : StatusCode} → TopTwoOf a w (Err v) → (g : SignatureToken → Step) → ((t : SignatureToken) → IsPop (g t)) → StepsTo (pop >>= g) a w a (Err v)
   unfolding run ◌>>=◌ pop Agrees top_two_of
-  two_none {v} p f = record { agrees = go }
+  two_refused {v} p g k = record { agrees = go }
     where
-      go : (s : Stack) → Holds a w s → Agrees a a (Err v) (run (length a) (pop >>= (λ t. pop >>= f t)) s)
+      go : (s : Stack) → Holds a w s → Agrees a a (Err v) (run (length a) (pop >>= g) s)
       go [] h = (same_err (p.is [] h), refl)
-      go (t ∷ []) h = (same_err (p.is (t ∷ []) h), refl)
+      go (t ∷ []) h = rw (pops_nothing (length a) (k t)) (same_err (p.is (t ∷ []) h), refl)
       go (t ∷ u ∷ s) h = let z : ◌≡◌ {A = ℕ} 0 1 = cc (p.is (t ∷ u ∷ s) h) in absurd (omega arith)
+
+  pub two_none : {v : StatusCode} → TopTwoOf a w (Err v) → (f : SignatureToken → SignatureToken → Step) → StepsTo (pop >>= (λ t. pop >>= f t)) a w a (Err v)
+  two_none p f = two_refused p (λ t. pop >>= f t) (λ t. takes (f t))
 
   pub two_then :
       {f : SignatureToken → SignatureToken → Step} {x y : Entry} {b : List ℕ} {r : Stepped} → TopTwoOf a w (Ok (x, y)) →
@@ -119,7 +131,7 @@ module _ {a : List ℕ} {w : ℕ} where
           (rw (start_is g) n.below)
 
 -- what a step answers that finds no operand
-pub ruleset pops = (pop_none, two_none)
+pub ruleset pops = (two_refused, takes, pop_none)
 
 -- ── pushes ──
 

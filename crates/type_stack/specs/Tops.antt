@@ -91,6 +91,9 @@ topped k p =
     let o = top_is p k.stack k.holds in
     top_known o.0 o.1 k.small (rw o.2 at k.holds) (start_is o.3) (len_is o.3)
 
+pub top_under : {a : List ℕ} {w : ℕ} {e : Entry} → Stacked a w → TopOf a w (Ok e) → Stacked a e.start
+top_under k p = (topped k p).under
+
 -- ── the top two ──
 
 pub two_no_first : {a : List ℕ} {w : ℕ} {v : StatusCode} → TopOf a w (Err v) → TopTwoOf a w (Err v)
@@ -146,5 +149,7 @@ topped_two {a} k p =
       top_known o.1 o.2 k.small (subst (λ (n : ℕ). Holds a n (o.1 ∷ o.2)) (sym (start_is o.4)) (popped h).below) (start_is o.5) (len_is o.5),
     )
 
--- what an exit of `pop_two` follows from
-pub ruleset pop_laws = (two_no_first, two_no_second, two_both)
+-- what `pop` answers, and what an exit of `pop_two` follows from
+pub ruleset top_laws = (top_none, top_some, top_number)
+
+pub ruleset pop_laws = (two_no_second, two_no_first, two_both, top_under)

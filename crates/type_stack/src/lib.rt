@@ -39,6 +39,7 @@ pub fn rebuilt(answer: PartialVMResult<usize>) -> PartialVMResult<usize>
 }
 
 // `stack.pop().unwrap()`: the top entry. What is left is the stack that weighs its start.
+#[tactic(auto, using(crate::specs::Tops::top_laws))]
 pub fn pop(area: &[u8], weight: usize) -> PartialVMResult<Entry>
     requires { Stacked area.now weight }
     ensures { TopOf area.now weight result }
@@ -46,7 +47,7 @@ pub fn pop(area: &[u8], weight: usize) -> PartialVMResult<Entry>
     if weight == 0 {
         return Err(StatusCode::EMPTY_STACK);
     }
-    let len = usize::from(area[weight - 2]) + usize::from(area[weight - 1]) * 256;
+    let len = usize::from(u16::from_le_bytes([area[weight - 2], area[weight - 1]]));
     Ok(Entry {
         start: weight - 2 - len,
         len,

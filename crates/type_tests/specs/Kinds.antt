@@ -98,9 +98,6 @@ module _ {s : List ℕ} {at : ℕ} {r : Token} (w : TokenAt s at r) where
       go (StructInstantiation h n x) g = refl
       go (TypeParameter i) g = refl
 
-  pub referent_by_law : {q : Referent} → q ≡ referent_of r → ReferentAt s at q
-  referent_by_law e p = e ∙ ap referent_of (w p)
-
   pub leaf_not : {command : ℕ} → (r ≡ Leaf command → ⊥) → LeafAt s at command false
   leaf_not f p u l = sym (same_no p.type u (λ e. f (w p ∙ ap (λ (t : SignatureToken). token_of t at) e ∙ leaf_token at l)))
 

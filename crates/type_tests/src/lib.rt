@@ -7,6 +7,7 @@ ghost use Rattle.type_tests.specs.Kinds.{ReferentAt, IntegerAt, LeafAt};
 use signature_token::{Token, TypeRef, Wrapper};
 
 // Whether the type of len bytes at x of a is that one. Where that one ends is not asked: bytes begin with one type at most.
+#[tactic(auto, using(signature_token::specs::Kept::within, signature_token::specs::Same::same_starts))]
 pub fn same_type(a: &[u8], x: usize, len: usize, ty: TypeRef) -> bool
     requires { Spans a.now x len }
     ensures { SameAt a.now x len ty.entry.bytes.now ty.entry.at result }
@@ -14,7 +15,8 @@ pub fn same_type(a: &[u8], x: usize, len: usize, ty: TypeRef) -> bool
     ty.bytes[ty.at..].starts_with(&a[x..x + len])
 }
 
-// What a type refers to: where that stands, by which kind of reference; or that it is no reference.
+// What a type refers to: where that stands, by which kind of reference; or that it is no reference. Not an Option of a pair: document 01 asks for
+// an enum to be matched by `let .. else`, since most users take one of the three ways.
 #[derive(Clone, Copy)]
 pub enum Referent {
     Reference(usize),

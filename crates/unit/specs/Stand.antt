@@ -1,7 +1,7 @@
 -- What was read stands where it was read: each record of a table at its place, and each instruction at its own. And the index has those
 -- places.
 use Rattle.std.proofs.Math.Path.{◌≡◌, ap}
-use Rattle.std.proofs.Common.{sym, ◌∙◌, not-suc-le-zero, le_of_suc-le-suc, arith, length-append, length-take, get_or-take, get_or-append-add}
+use Rattle.std.proofs.Common.{sym, ◌∙◌, not-suc-le-zero, le_of_suc-le-suc, arith, length-take, get_or-take, get_or-append-add}
 use Rattle.std.specs.Prelude.{Bool, ◌&&◌, ltb, length, get_or, take}
 use Rattle.std.proofs.Math.Bool.{true, false}
 use mathlib.Core.List.{List, [], ◌∷◌}
@@ -101,11 +101,6 @@ due_got commands c s at h =
 
 -- what an index has after it was filled
 module _ {s before ps after : List ℕ} {base e : ℕ} (f : Filled s base before ps e after) (l : base ≤ length before) {i : ℕ} (h : i < length ps) where
-  pub entry_there : base + i < length after
-  entry_there =
-      let q = sym (length-take (base + length ps) after) ∙ ap length f.placed ∙ length-append (take base before) ps in
-      omega (arith, q, length-take base before)
-
   pub entry : get_or after (base + i) 0 ≡ get_or ps i 0
   entry =
       let n : length (take base before) ≡ base = length-take base before ∙ omega arith in

@@ -78,8 +78,8 @@ fn is_known(head: Head, command: u8) -> bool
     }
 }
 
-// The records of one command. The place of each goes into the index, from base on. Each begins where the one before it ends, so that no range
-// names the places.
+// The records of one command, whose bodies `read_body` reads by it: the loop over the commands has no function for each to hand on. The place of
+// each goes into the index, from base on. Each begins where the one before it ends, so that no range names the places.
 fn read_table(
     s: &[u8],
     from: usize,
@@ -99,7 +99,7 @@ fn read_table(
     }
     while at < s.len() && s[at] == command {
         let next = record_reader::read_body(s, at + 1, command)?;
-        index[base + n] = at as u16;
+        index[base + n] = at as u16; // fits, which is proved: `TryFrom` would ask at run time
         at = next;
         n += 1;
     }
@@ -107,7 +107,8 @@ fn read_table(
 }
 
 // The tables before the function, of the commands 10 to 18, from the byte after the head on. Where the entries of each begin goes to
-// `bases`, and behind the last where they end.
+// `bases`, and behind the last where they end: an array, since tables handed up by value took some 50 ns more for each unit. The index is lent whole
+// with a base, since its entries are numbered through all tables.
 fn read_tables(
     s: &[u8],
     head: Head,
@@ -162,7 +163,7 @@ fn read_code(s: &[u8], from: usize, index: &mut [u16], base: usize) -> Result<Re
     let widths = instruction_reader::operand_widths();
     for n in 0..count {
         let next = instruction_reader::read_instruction(s, at, &widths)?;
-        index[base + n] = at as u16;
+        index[base + n] = at as u16; // fits, which is proved: `TryFrom` would ask at run time
         at = next;
     }
     Ok(Records {
@@ -218,7 +219,7 @@ fn read_listing(
     })
 }
 
-// So many entries from base on.
+// So many entries from base on. Both fit, which is proved.
 fn entries(base: usize, count: usize) -> Table
     requires { base + count ≤ 32768 }
     ensures { result ≡ record { base = base; count = count } }

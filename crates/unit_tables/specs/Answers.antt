@@ -24,11 +24,6 @@ module _ {A B : Type 0} {x : defs.Result A} (k : A → defs.Result B) where
   unfolding ◌>>?◌
   refused e = rw (← e)
 
-  -- go on with what was found
-  pub goes_on : {a : A} {r : defs.Result B} → ok a ≡ x → r ≡ k a → r ≡ (x >>? k)
-  unfolding ◌>>?◌
-  goes_on e h = rw (← e) h
-
 -- ── by a relation ──
 
 -- R ties a value of the definitions to the one that was found

@@ -27,13 +27,6 @@ unit_read unit = go (read_unit unit.bytes.now) refl unit.read
 abbrev pub compiled : UnitView → defs.CompiledUnit
 compiled unit = compiled_unit (unit_read unit).decoded
 
--- whatever was read of the bytes is that unit
-pub compiled_is : (unit : UnitView) {d : Decoded} {e : ℕ} → read_unit unit.bytes.now ≡ read d e → compiled unit ≡ compiled_unit d
-compiled_is unit {d} {e} q =
-    let h = (unit_read unit).reads in
-    let n : (unit_read unit).decoded ≡ d = cc in
-    ap compiled_unit n
-
 -- what a caller has who read the unit
 pub read_as : {s index : List ℕ} {view : View} → UnitRead s index view → ReadAs (read_unit s) index view
 read_as u = rw u.reads (u.viewed, u.indexed)

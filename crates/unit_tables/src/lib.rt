@@ -22,20 +22,20 @@ pub struct UnitView<'a> {
     pub ghost read: { ReadAs (read_unit bytes.now) index.now view } by { ReadAs-prop view-code (read_unit bytes.now) index.now view },
 }
 
+// Where record i of a table stands, by the index.
+pub fn place(index: &[u16], table: Table, i: usize) -> usize
+    requires fits { Fits index.now table }
+    requires i_lt_count { i < table.count }
+    ensures value { EntryIs index.now table i result }
+    ensures bound { result < 65536 }
+{
+    usize::from(index[usize::from(table.base) + i])
+}
+
 impl UnitView<'_> {
     ghost use Rattle.unit_tables.specs.Compiled.{compiled, module_only};
 
-    // Where record i of a table stands.
-    pub fn place(&self, table: Table, i: usize) -> usize
-        requires fits { Fits self.now.index.now table }
-        requires i_lt_count { i < table.count }
-        ensures value { EntryIs self.now.index.now table i result }
-        ensures bound { result < 65536 }
-    {
-        usize::from(self.index[usize::from(table.base) + i])
-    }
-
-    // The same of an index that may be past the table.
+    // The same of a number that may be past the table.
     pub fn look_up(&self, table: Table, i: u16) -> PartialVMResult<usize>
         requires { Fits self.now.index.now table }
         ensures value { MatchResult result (EntryIs self.now.index.now table i) (PastIs table i) }
@@ -44,7 +44,7 @@ impl UnitView<'_> {
         if table.count <= i {
             return Err(StatusCode::OUT_OF_TABLE);
         }
-        Ok(self.place(table, usize::from(i)))
+        Ok(place(self.index, table, usize::from(i)))
     }
 
     // Asks that the unit has the tables that a script lacks.

@@ -1,5 +1,5 @@
 // VecImmBorrow and VecMutBorrow of type_safety.rs: the element type is looked up before the pops.
-#![tactic(auto, using(operand_steps::specs::Operands::operands, step_views::specs::Looked::types), unfolding(definitions::specs::TypeSafety::borrow_vector_element))]
+#![tactic(auto, using(operand_steps::specs::Operands::operands, step_views::specs::Looked::types, step_views::specs::Looked::looks, vector_elements::specs::Found::found_short), unfolding(definitions::specs::TypeSafety::borrow_vector_element))]
 
 ghost use Rattle.definitions.specs.TypeSafety as step;
 ghost use Rattle.type_stack.specs.Held.{Stacked};
@@ -7,7 +7,7 @@ ghost use Rattle.type_stack.specs.Stepping.{StepsTo};
 ghost use Rattle.unit_tables.specs.Compiled.{compiled};
 
 use file_format::SignatureIndex;
-use signature_token::{TypeRef, U64};
+use signature_token::U64;
 use status::{PartialVMResult, StatusCode};
 use unit_tables::UnitView;
 
@@ -22,21 +22,13 @@ pub fn borrow_vector_element(
     requires { Stacked area.old weight }
     ensures { StepsTo (step.borrow_vector_element (compiled unit.now) mut_ref_only idx.0) area.old weight area.new result }
 {
-    let at = unit_views::element_type_at(unit, idx)?;
-    let declared = TypeRef {
-        bytes: unit.bytes,
-        at,
-    };
+    let declared = unit_views::element_type_at(unit, idx)?;
     let (top, below) = type_stack::pop_two(area, weight)?;
-    let index = TypeRef {
-        bytes: area,
-        at: top.start,
-    };
-    if type_tests::is_leaf(index, U64) {
+    if operand_steps::is_leaf(area, top, U64) {
         if vector_elements::element_is(area, below, declared, mut_ref_only) {
             let command = type_pushes::reference_command(mut_ref_only);
-            let end = declared.end();
-            return copied_pushes::push_wrapped(area, below.start, command, &unit.bytes[at..end]);
+            let bytes = &declared.bytes[declared.at..declared.end()];
+            return copied_pushes::push_wrapped(area, below.start, command, bytes);
         }
     }
     Err(StatusCode::TYPE_MISMATCH)

@@ -1,26 +1,23 @@
 -- A type that a look-up found in the unit: the part that it takes up, the push of a vector of it, and a comparison with it.
-use Rattle.std.specs.Prelude.{◌≡◌, List, ◌∷◌, Bool, ℕ, ◌-◌, ◌≤◌, length}
-use Rattle.std.proofs.Common.{ap, sym, ◌∙◌, arith}
+use Rattle.std.specs.Prelude.{◌≡◌, List, ◌∷◌, Bool, ℕ, ◌-◌, ◌≤◌, length, drop}
+use Rattle.std.proofs.Common.{ap, sym, ◌∙◌, arith, length-drop}
+use Rattle.std.proofs.lemmas.List.{length-take}
 use Rattle.definitions.specs.SignatureToken.{SignatureToken, Vector, encode, same}
 use Rattle.definitions.specs.Machine.{push}
 use Rattle.definitions.specs.Places.{TypeAt, EndOfType}
-use Rattle.signature_token.specs.Ends.{type_room}
 use Rattle.signature_token.specs.Same.{SameAt, same_both}
-use Rattle.type_stack.specs.Held.{Here, part, part_length}
+use Rattle.type_stack.specs.Held.{Here, part}
 use Rattle.type_stack.specs.Stepping.{StepsTo}
 use Rattle.type_stack.specs.Pushing.{PushesTo}
 use Rattle.type_stack.specs.Answers.{Stepped}
 use Rattle.operand_steps.specs.Operands.{span}
-use Rattle.copied_pushes.specs.Standing.{type_part, type_bytes}
+use Rattle.copied_pushes.specs.Standing.{type_bytes}
 
 -- ── its part ──
 
-module _ {s : List ℕ} {d z : ℕ} (q : TypeAt s d) (f : EndOfType s d z) where
-  pub found_within : (d ≤ z) × (z ≤ length s)
-  found_within = (omega (arith, f q), omega (arith, f q, type_room q))
-
-  pub found_short : length s ≤ 65535 → length (part s d z) ≤ 65535
-  found_short l = let e : length (part s d z) ≡ z - d = part_length (type_part q f l) in omega (arith, found_within)
+-- no longer than the bytes that it is a part of
+pub found_short : (s : List ℕ) (d z : ℕ) → length s ≤ 65535 → length (part s d z) ≤ 65535
+found_short s d z l = omega (arith, length-take (z - d) (drop d s), length-drop d s)
 
 -- ── a push ──
 

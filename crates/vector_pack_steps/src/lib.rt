@@ -1,6 +1,6 @@
 // VecPack and VecUnpack of type_safety.rs: as many pops or pushes as the instruction says. VecPack looks the element type up before its pops,
 // VecUnpack after its pop.
-#![tactic(auto, using(type_stack::specs::Stepping::pops, operand_steps::specs::Operands::operands, step_views::specs::Looked::types), unfolding(definitions::specs::TypeSafety::vec_pack, definitions::specs::TypeSafety::vec_unpack))]
+#![tactic(auto, using(type_stack::specs::Stepping::pops, operand_steps::specs::Operands::operands, step_views::specs::Looked::types, step_views::specs::Looked::looks, vector_elements::specs::Found::found_short), unfolding(definitions::specs::TypeSafety::vec_pack, definitions::specs::TypeSafety::vec_unpack))]
 
 ghost use Rattle.std.specs.Prelude.{◌≤◌, length};
 ghost use Rattle.definitions.specs.Machine.{pop_n};
@@ -11,7 +11,7 @@ ghost use Rattle.unit_tables.specs.Compiled.{compiled};
 ghost use Rattle.vector_pack_steps.specs.Many.{PushesMany};
 
 use file_format::SignatureIndex;
-use signature_token::{TypeRef, VECTOR};
+use signature_token::VECTOR;
 use status::{PartialVMResult, StatusCode};
 use unit_tables::UnitView;
 
@@ -57,13 +57,10 @@ pub fn vec_pack(
     requires { Stacked area.old weight }
     ensures { StepsTo (step.vec_pack (compiled unit.now) idx.0 num) area.old weight area.new result }
 {
-    let at = unit_views::element_type_at(unit, idx)?;
+    let element = unit_views::element_type_at(unit, idx)?;
     let below = pop_many(area, weight, num)?;
-    let element = TypeRef {
-        bytes: unit.bytes,
-        at,
-    };
-    copied_pushes::push_wrapped(area, below, VECTOR, &unit.bytes[at..element.end()])
+    let bytes = &element.bytes[element.at..element.end()];
+    copied_pushes::push_wrapped(area, below, VECTOR, bytes)
 }
 
 // `VecUnpack`.
@@ -78,13 +75,10 @@ pub fn vec_unpack(
     ensures { StepsTo (step.vec_unpack (compiled unit.now) idx.0 num) area.old weight area.new result }
 {
     let top = type_stack::pop(area, weight)?;
-    let at = unit_views::element_type_at(unit, idx)?;
-    let declared = TypeRef {
-        bytes: unit.bytes,
-        at,
-    };
+    let declared = unit_views::element_type_at(unit, idx)?;
     if vector_elements::vector_is(area, top, declared) {
-        return push_many(area, top.start, &unit.bytes[at..declared.end()], num);
+        let bytes = &declared.bytes[declared.at..declared.end()];
+        return push_many(area, top.start, bytes, num);
     }
     Err(StatusCode::TYPE_MISMATCH)
 }

@@ -15,14 +15,15 @@ use Rattle.definitions.specs.Machine.{Step, ◌>>=◌, done, look, check}
 use Rattle.definitions.specs.TypeSafety.{element_is}
 use Rattle.definitions.specs.Places.{TypeAt}
 use Rattle.signature_token.specs.Same.{Spans}
+use Rattle.signature_token.specs.declared.TypeRef.{TypeRef}
 use Rattle.type_stack.specs.Held.{Here}
 use Rattle.type_stack.specs.Stepping.{StepsTo, done_here}
 use Rattle.type_stack.specs.Answers.{Stepped}
 use Rattle.operand_steps.specs.Operands.{span}
 use Rattle.unit_tables.specs.Answers.{ResultIs, what_found, why_refused}
-use Rattle.unit_views.specs.Lookups.{TypeIs}
+use Rattle.unit_views.specs.Lookups.{TypeOf}
 use Rattle.vector_elements.specs.Elements.{is_element, ElementIs, guard_is}
-use Rattle.step_views.specs.Looked.{found_type, type_then, looked_bad}
+use Rattle.step_views.specs.Looked.{type_then, looked_bad}
 
 -- ── the words ──
 
@@ -34,9 +35,9 @@ of_element d false = err TYPE_MISMATCH
 unfoldable pub named_element : CompiledUnit → ℕ → SignatureToken → Bool → Result SignatureToken
 named_element u idx t mut_ref_only = element_type_at u idx >>? λ declared. of_element declared (is_element declared (get_vector_element_type t mut_ref_only))
 
--- r says where it stands
-pub record NamedElement (u : CompiledUnit) (idx : ℕ) (m : Bool) (a : List ℕ) (x l : ℕ) (s : List ℕ) (r : PartialVMResult ℕ) : Type 0 where
-  pub is : (p : Spans a x l) → ResultIs (TypeIs s) (named_element u idx p.type m) r
+-- it is what r refers to
+pub record NamedElement (u : CompiledUnit) (idx : ℕ) (m : Bool) (a : List ℕ) (x l : ℕ) (r : PartialVMResult TypeRef) : Type 0 where
+  pub is : (p : Spans a x l) → ResultIs TypeOf (named_element u idx p.type m) r
 
 -- ── the look-up and the guard together ──
 
@@ -61,36 +62,32 @@ module _ (t : SignatureToken) (m : Bool) where
       go true = refl
       go false = refl
 
-module _ {u : CompiledUnit} {idx : ℕ} {m : Bool} {a : List ℕ} {x l : ℕ} {s : List ℕ} {t : SignatureToken} {g : List ℕ} {w : ℕ} where
+module _ {u : CompiledUnit} {idx : ℕ} {m : Bool} {a : List ℕ} {x l : ℕ} {t : SignatureToken} {g : List ℕ} {w : ℕ} where
   pub named_then :
-      {d : ℕ} → NamedElement u idx m a x l s (Ok d) → Here a x l t → (f : SignatureToken → Step) {b : List ℕ} {r : Stepped} →
-      ((p : TypeAt s d) → StepsTo (f p.type) g w b r) → StepsTo (look (element_type_at u idx) >>= (λ d. element_is d t m >>= (λ _. f d))) g w b r
+      {d : TypeRef} → NamedElement u idx m a x l (Ok d) → Here a x l t → (f : SignatureToken → Step) {b : List ℕ} {r : Stepped} →
+      ((p : TypeAt d.bytes.now d.at) → StepsTo (f p.type) g w b r) → StepsTo (look (element_type_at u idx) >>= (λ d. element_is d t m >>= (λ _. f d))) g w b r
   unfolding named_element
   named_then k h f z = rw (of_named t m (element_type_at u idx) f) (type_then f (k.is (span h)) z)
 
   pub named_bad :
-      {y : StatusCode} → NamedElement u idx m a x l s (Err y) → Here a x l t → (f : SignatureToken → Step) →
+      {y : StatusCode} → NamedElement u idx m a x l (Err y) → Here a x l t → (f : SignatureToken → Step) →
       StepsTo (look (element_type_at u idx) >>= (λ d. element_is d t m >>= (λ _. f d))) g w g (Err y)
   unfolding named_element
   named_bad k h f = rw (of_named t m (element_type_at u idx) f) (looked_bad f (k.is (span h)))
 
-  pub named_last : {d : ℕ} → NamedElement u idx m a x l s (Ok d) → Here a x l t → StepsTo (look (element_type_at u idx) >>= (λ d. element_is d t m)) g w g (Ok w)
+  pub named_last : {d : TypeRef} → NamedElement u idx m a x l (Ok d) → Here a x l t → StepsTo (look (element_type_at u idx) >>= (λ d. element_is d t m)) g w g (Ok w)
   named_last k h = rw (of_named_last t m (element_type_at u idx)) (named_then k h (λ _. done) (λ p. done_here))
 
-  pub named_last_bad : {y : StatusCode} → NamedElement u idx m a x l s (Err y) → Here a x l t → StepsTo (look (element_type_at u idx) >>= (λ d. element_is d t m)) g w g (Err y)
+  pub named_last_bad : {y : StatusCode} → NamedElement u idx m a x l (Err y) → Here a x l t → StepsTo (look (element_type_at u idx) >>= (λ d. element_is d t m)) g w g (Err y)
   named_last_bad k h = rw (of_named_last t m (element_type_at u idx)) (named_bad k h (λ _. done))
 
--- where it was found
-pub named_type : {u : CompiledUnit} {idx : ℕ} {m : Bool} {a : List ℕ} {x l : ℕ} {s : List ℕ} {d : ℕ} → NamedElement u idx m a x l s (Ok d) → Spans a x l → TypeAt s d
-named_type k p = found_type (k.is p)
-
 -- what `named_element` finds: no signature, an element type that is not the operand's, or one that is
-module _ (u : CompiledUnit) (idx : ℕ) {s : List ℕ} {m : Bool} {a : List ℕ} {x l : ℕ} where
-  pub named_none : {y : StatusCode} → ResultIs (TypeIs s) (element_type_at u idx) (Err y) → NamedElement u idx m a x l s (Err y)
+module _ (u : CompiledUnit) (idx : ℕ) {m : Bool} {a : List ℕ} {x l : ℕ} where
+  pub named_none : {y : StatusCode} → ResultIs TypeOf (element_type_at u idx) (Err y) → NamedElement u idx m a x l (Err y)
   unfolding named_element ◌>>?◌
   named_none k = record { is = λ p. rw (why_refused k) (record { is = refl }) }
 
-  module _ {d : ℕ} (k : ResultIs (TypeIs s) (element_type_at u idx) (Ok d)) {r : Bool} (i : ElementIs a x l s d m r) where
+  module _ {d : TypeRef} (k : ResultIs TypeOf (element_type_at u idx) (Ok d)) {r : Bool} (i : ElementIs a x l d.bytes.now d.at m r) where
     named_test : (p : Spans a x l) → named_element u idx p.type m ≡ of_element (what_found k).0 r
     unfolding named_element ◌>>?◌
     named_test p =
@@ -98,10 +95,10 @@ module _ (u : CompiledUnit) (idx : ℕ) {s : List ℕ} {m : Bool} {a : List ℕ}
         ap (λ (x : Result SignatureToken). x >>? λ declared. of_element declared (is_element declared (get_vector_element_type p.type m))) n.1
         ∙ ap (of_element n.0) (sym (i.is p (record { type = n.0; stands = n.2 })))
 
-    pub named_yes : r ≡ true → NamedElement u idx m a x l s (Ok d)
+    pub named_yes : r ≡ true → NamedElement u idx m a x l (Ok d)
     named_yes f = record { is = λ p. rw (named_test p, f) (record { is = (what_found k).2 }) }
 
-    pub named_no : r ≡ false → NamedElement u idx m a x l s (Err TYPE_MISMATCH)
+    pub named_no : r ≡ false → NamedElement u idx m a x l (Err TYPE_MISMATCH)
     named_no f = record { is = λ p. rw (named_test p, f) (record { is = refl }) }
 
 -- what `named_element` answers of an element type that was found

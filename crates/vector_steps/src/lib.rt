@@ -1,7 +1,8 @@
 // The steps of type_safety.rs on a vector behind a reference: VecLen, VecPushBack, VecPopBack and VecSwap. The element type that such an instruction
 // names is looked up where the Rust looks it up: after the pops, in VecSwap after its indexes too. A step that only reads takes the area as `&[u8]`.
-#![tactic(auto, using(type_stack::specs::Stepping::pops, operand_steps::specs::Operands::operands, step_views::specs::Looked::types), unfolding(definitions::specs::TypeSafety::vec_len, definitions::specs::TypeSafety::vec_push_back, definitions::specs::TypeSafety::vec_pop_back, definitions::specs::TypeSafety::vec_swap))]
+#![tactic(auto, using(type_stack::specs::Stepping::pops, operand_steps::specs::Operands::operands), unfolding(definitions::specs::TypeSafety::vec_len, definitions::specs::TypeSafety::vec_push_back, definitions::specs::TypeSafety::vec_pop_back, definitions::specs::TypeSafety::vec_swap))]
 
+ghost use Rattle.std.specs.Prelude.{◌≡◌, IfOk};
 ghost use Rattle.definitions.specs.TypeSafety as step;
 ghost use Rattle.signature_token.specs.Same.{Spans};
 ghost use Rattle.type_stack.specs.Held.{Stacked};
@@ -15,27 +16,24 @@ use status::{PartialVMResult, StatusCode};
 use type_stack::Entry;
 use unit_tables::UnitView;
 
-// Where the element type stands that the instruction names, if the operand refers to a vector of it.
-#[tactic(auto, using(crate::specs::Named::named, step_views::specs::Looked::types))]
-fn named_element(
+// The element type that the instruction names, if the operand refers to a vector of it.
+#[tactic(auto, using(crate::specs::Named::named))]
+fn named_element<'a>(
     area: &[u8],
     operand: Entry,
-    unit: &UnitView<'_>,
+    unit: &UnitView<'a>,
     idx: SignatureIndex,
     mut_ref_only: bool,
-) -> PartialVMResult<usize>
+) -> PartialVMResult<TypeRef<'a>>
     requires { Spans area.now operand.start operand.len }
-    ensures { NamedElement (compiled unit.now) idx.0 mut_ref_only area.now operand.start operand.len unit.now.bytes.now result }
+    ensures is { NamedElement (compiled unit.now) idx.0 mut_ref_only area.now operand.start operand.len result }
+    ensures in_unit { IfOk result (λ ty. ty.bytes.now ≡ unit.now.bytes.now) }
 {
-    let at = unit_views::element_type_at(unit, idx)?;
-    let declared = TypeRef {
-        bytes: unit.bytes,
-        at,
-    };
+    let declared = unit_views::element_type_at(unit, idx)?;
     if !vector_elements::element_is(area, operand, declared, mut_ref_only) {
         return Err(StatusCode::TYPE_MISMATCH);
     }
-    Ok(at)
+    Ok(declared)
 }
 
 // `VecLen`.
@@ -64,11 +62,7 @@ pub fn vec_push_back(
     ensures { StepsTo (step.vec_push_back (compiled unit.now) idx.0) area.now weight area.now result }
 {
     let (top, below) = type_stack::pop_two(area, weight)?;
-    let at = unit_views::element_type_at(unit, idx)?;
-    let declared = TypeRef {
-        bytes: unit.bytes,
-        at,
-    };
+    let declared = unit_views::element_type_at(unit, idx)?;
     if type_tests::same_type(area, top.start, top.len, declared) {
         if vector_elements::element_is(area, below, declared, true) {
             return Ok(below.start);
@@ -78,7 +72,7 @@ pub fn vec_push_back(
 }
 
 // `VecPopBack`.
-#[tactic(auto, using(type_stack::specs::Stepping::pops, operand_steps::specs::Operands::operands, crate::specs::Named::named_type), unfolding(definitions::specs::TypeSafety::vec_pop_back))]
+#[tactic(auto, using(type_stack::specs::Stepping::pops, operand_steps::specs::Operands::operands, step_views::specs::Looked::types, vector_elements::specs::Found::found_short), unfolding(definitions::specs::TypeSafety::vec_pop_back))]
 pub fn vec_pop_back(
     area: &mut [u8],
     weight: usize,
@@ -89,12 +83,8 @@ pub fn vec_pop_back(
     ensures { StepsTo (step.vec_pop_back (compiled unit.now) idx.0) area.old weight area.new result }
 {
     let top = type_stack::pop(area, weight)?;
-    let at = named_element(area, top, unit, idx, true)?;
-    let declared = TypeRef {
-        bytes: unit.bytes,
-        at,
-    };
-    copied_pushes::push_part(area, top.start, &unit.bytes[at..declared.end()])
+    let element = named_element(area, top, unit, idx, true)?;
+    copied_pushes::push_part(area, top.start, &element.bytes[element.at..element.end()])
 }
 
 // `VecSwap`: both indexes are tested before the signature is looked up.
@@ -109,16 +99,8 @@ pub fn vec_swap(
 {
     let (top, below) = type_stack::pop_two(area, weight)?;
     let vector = type_stack::pop(area, below.start)?;
-    let index1 = TypeRef {
-        bytes: area,
-        at: below.start,
-    };
-    let index2 = TypeRef {
-        bytes: area,
-        at: top.start,
-    };
-    if type_tests::is_leaf(index1, U64) {
-        if type_tests::is_leaf(index2, U64) {
+    if operand_steps::is_leaf(area, below, U64) {
+        if operand_steps::is_leaf(area, top, U64) {
             named_element(area, vector, unit, idx, true)?;
             return Ok(vector.start);
         }

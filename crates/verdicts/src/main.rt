@@ -1,5 +1,6 @@
 // Judges the cases of its standard input, which are those of the file `cases` in the form that the crate `cases` reads, and writes a verdict
-// to a line. What it must write stands in that file too, from document 01 and from the Rust, never from this program.
+// to a line. What it must write stands in that file too, from document 01 and from the Rust, never from this program. No heap is used, so
+// the input's array is fixed.
 #![tactic(auto)]
 
 use std::io;

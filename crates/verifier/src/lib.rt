@@ -1,5 +1,6 @@
 // The public calls of document 01: read a unit, stack usage, types, and both. They ask nothing of their caller. An area that is too long is
-// refused before the unit is looked at; else the call leaves zeros in the whole area.
+// refused before the unit is looked at; else the call leaves zeros in the whole area. That it is short enough is asked below of each function that
+// writes it: no ghost field stands beside a `&mut`.
 #![tactic(auto)]
 
 ghost use Rattle.std.specs.Prelude.{◌≡◌, ◌≤◌, length};
@@ -76,7 +77,8 @@ impl Passes for Both {
     }
 }
 
-// Reads a unit and judges it, with an index of N entries, one for each byte or more.
+// Reads a unit and judges it, with an index of N entries, one for each byte or more: an array, since no heap is used. That the byte's number fits is
+// proved.
 fn judge_in<P: Passes, const N: usize>(s: &[u8], area: &mut [u8]) -> Verdict
     requires area_len_bound { length area.old ≤ 65535 }
     requires index_len_bound { length s.now ≤ 32768 → length s.now ≤ N }

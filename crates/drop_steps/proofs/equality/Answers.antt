@@ -3,14 +3,10 @@ use mathlib.Core.Path.{refl}
 use Rattle.definitions.specs.TypeSafety as step
 use Rattle.signature_token.specs.TokenLaws.{is_bool}
 use Rattle.type_stack.specs.Answers.{exit_is}
-use Rattle.type_stack.specs.Stepping.{two_none, two_then, check_then, check_bad}
+use Rattle.type_stack.specs.Stepping.{two_then, check_then, check_bad}
 use Rattle.operand_steps.specs.Operands.{operand, span, no_left, no_right, yes_both, push_leaf}
 use Rattle.step_views.specs.Checks.{ability_then, ability_bad}
 use Rattle.drop_steps.proofs.equality.Goals as goal
-
-pub returns-in_err-top : goal.returns-in_err-top
-unfolding step.equality
-returns-in_err-top c = rw (exit_is c.from_residual.ensures.1) (two_none c.in_err-top.ensures _)
 
 pub returns-in_err-check_ability : goal.returns-in_err-check_ability
 unfolding step.equality

@@ -36,9 +36,6 @@ returns-in_err-at c =
     (λ t h. check_then _ _ (passed h c.in_ok-referent.ensures)
     (owner_then c.in_ok-owner.ensures _ (λ o. look_bad _ (no_referent h c.in_ok-referent.ensures c.in_err-at.ensures.value))))))
 
-pub overflow_sub-top : goal.overflow_sub-top
-overflow_sub-top c = (a_reference (topped c.requires.stacked c.in_ok-top.ensures).here c.in_ok-referent.ensures c.in_ok-at.ensures.value).room
-
 pub borrow_from-requires-clause-stacked : goal.borrow_from-requires-clause-stacked
 borrow_from-requires-clause-stacked c =
     let o = topped c.requires.stacked c.in_ok-top.ensures in

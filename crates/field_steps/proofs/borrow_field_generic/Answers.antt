@@ -8,8 +8,8 @@ pub returns-in_err-type_args : goal.returns-in_err-type_args
 unfolding step.borrow_field_generic
 returns-in_err-type_args c =
     rw (exit_is c.from_residual-in_err-type_args.ensures.1)
-    (told_then _ c.in_ok-inst.ensures (looked_bad _ c.in_err-type_args.ensures))
+    (told_then _ c.in_ok-inst.ensures (looked_bad _ c.in_err-type_args.ensures.value))
 
 pub returns : goal.returns
 unfolding step.borrow_field_generic
-returns c = told_then _ c.in_ok-inst.ensures (types_then _ c.in_ok-type_args.ensures c.borrow_field.ensures)
+returns c = told_then _ c.in_ok-inst.ensures (types_then _ c.in_ok-type_args.ensures.value c.borrow_field.ensures)

@@ -1,38 +1,22 @@
--- Each opcode does its own step; a borrow that is not generic has no type arguments.
+-- A borrow that is not generic has no type arguments.
+use Rattle.std.specs.Prelude.{[]}
 use native.Mathlib.Omega.{arith}
 use Rattle.definitions.specs.TypeSafety.{verify_instr}
 use Rattle.record_views.specs.Records.{instruction_of}
-use Rattle.instructions.specs.Does.{key_does, no_types}
+use Rattle.step_views.specs.Looked.{list_room}
+use Rattle.instructions.specs.Does.{key_does}
 use Rattle.instructions.proofs.global_instr.Goals as goal
 
-pub borrow_global-requires : goal.borrow_global-requires
-unfolding instruction_of verify_instr no_types
-borrow_global-requires c =
-    record {
-      stacked = c.requires.stacked;
-      types_in = no_types _;
-    }
+pub borrow_global-requires-clause-short : goal.borrow_global-requires-clause-short
+borrow_global-requires-clause-short c = list_room c.args.unit.now c.no_types-none.ensures.in_unit
 
-pub borrow_global-requires-in-34 : goal.borrow_global-requires-in-34
-unfolding instruction_of verify_instr no_types
-borrow_global-requires-in-34 c =
-    record {
-      stacked = c.requires.stacked;
-      types_in = no_types _;
-    }
+pub borrow_global-requires-in-34-clause-short : goal.borrow_global-requires-in-34-clause-short
+borrow_global-requires-in-34-clause-short c = list_room c.args.unit.now c.no_types-none.ensures.in_unit
 
 pub returns-in-32 : goal.returns-in-32
-unfolding instruction_of verify_instr no_types
-returns-in-32 c = key_does 32 (omega arith) (c.borrow_global.ensures (no_types _))
-
-pub returns-in-33 : goal.returns-in-33
-unfolding instruction_of verify_instr no_types
-returns-in-33 c = key_does 33 (omega arith) c.borrow_global_generic.ensures
+unfolding instruction_of verify_instr
+returns-in-32 c = key_does 32 (omega arith) (c.borrow_global.ensures (record { types = []; are = c.no_types-none.ensures.are }))
 
 pub returns-in-34 : goal.returns-in-34
-unfolding instruction_of verify_instr no_types
-returns-in-34 c = key_does 34 (omega arith) (c.borrow_global-in-34.ensures (no_types _))
-
-pub returns-in_default : goal.returns-in_default
-unfolding instruction_of verify_instr no_types
-returns-in_default c = key_does 35 (omega arith) c.borrow_global_generic-in_default.ensures
+unfolding instruction_of verify_instr
+returns-in-34 c = key_does 34 (omega arith) (c.borrow_global-in-34.ensures (record { types = []; are = c.no_types-none.ensures.are }))

@@ -3,4 +3,4 @@ use Rattle.list_steps.specs.Pushes.{Weighing}
 use Rattle.list_steps.proofs.weigh_each.Given as goal
 
 abbrev pub invariant-loop : goal.invariant-loop
-invariant-loop l = Weighing l.room l.weight l.s l.fn.list l.args.bytes.now l.args.places.now l.after l.at l.counter
+invariant-loop l = Weighing l.room l.weight l.fn.list l.args.bytes.now l.args.places.now l.after l.at l.counter

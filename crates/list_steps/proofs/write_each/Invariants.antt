@@ -3,4 +3,4 @@ use Rattle.list_steps.specs.Pushes.{Writing}
 use Rattle.list_steps.proofs.write_each.Given as goal
 
 abbrev pub invariant-loop : goal.invariant-loop
-invariant-loop l = Writing l.initial.area l.weight l.s l.fn.list l.args.bytes.now l.args.places.now l.area l.after l.at l.counter
+invariant-loop l = Writing l.initial.area l.weight l.fn.list l.args.bytes.now l.args.places.now l.area l.after l.at l.counter

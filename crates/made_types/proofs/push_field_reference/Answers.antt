@@ -3,20 +3,10 @@ use Prim.Native.Nat.{◌+◌}
 use native.Mathlib.Omega.{arith}
 use mathlib.Core.List.{◌∷◌}
 use mathlib.Core.Path.{refl}
-use Rattle.substitution.specs.Size.{size_long, size_room}
-use Rattle.type_stack.specs.Answers.{exit_is}
+use Rattle.substitution.specs.Size.{size_room}
 use Rattle.type_stack.specs.Pushing.{push_over, push_lent_under}
-use Rattle.made_types.specs.Pushes.{free_long, field_refused, field_pushed}
+use Rattle.made_types.specs.Pushes.{free_long, field_pushed}
 use Rattle.made_types.proofs.push_field_reference.Goals as goal
-
-pub returns-in_err-len : goal.returns-in_err-len
-returns-in_err-len c = rw (exit_is c.from_residual.ensures.1) (field_refused c.in_err-len.ensures)
-
-pub overflow_add-len : goal.overflow_add-len
-overflow_add-len c = omega (arith, size_long c.in_ok-len.ensures c.args.ty.stands c.args.args.stand)
-
-pub overflow_add-len-2 : goal.overflow_add-len-2
-overflow_add-len-2 c = omega (arith, size_long c.in_ok-len.ensures c.args.ty.stands c.args.args.stand)
 
 pub returns-then-area-weight : goal.returns-then-area-weight
 returns-then-area-weight c =

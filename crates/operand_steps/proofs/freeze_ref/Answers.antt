@@ -1,9 +1,8 @@
 -- A mutable reference is pushed again with the command of an immutable one; an operand of any other kind is refused.
 use mathlib.Core.Path.{refl}
-use native.Mathlib.Omega.{arith}
 use Rattle.definitions.specs.TypeSafety as step
 use Rattle.type_stack.specs.Stepping.{pop_then, look_then, look_bad}
-use Rattle.operand_steps.specs.Operands.{top_under, top_room, refers_mutably, mutable_is, no_mutable, push_frozen}
+use Rattle.operand_steps.specs.Operands.{refers_mutably, mutable_is, no_mutable, push_frozen}
 use Rattle.operand_steps.proofs.freeze_ref.Goals as goal
 
 pub returns-in_default : goal.returns-in_default
@@ -11,12 +10,6 @@ unfolding step.freeze_ref
 returns-in_default c =
     pop_then c.in_ok-top.ensures
     (λ t p. look_bad _ (rw (no_mutable c.referent_of.ensures p c.in_default.not-MutableReference)))
-
-pub overflow_add-top : goal.overflow_add-top
-overflow_add-top c = omega (arith, c.requires.small, (top_room c.requires c.in_ok-top.ensures).1)
-
-pub push_retagged-requires : goal.push_retagged-requires
-push_retagged-requires c = record { stacked = top_under c.requires c.in_ok-top.ensures; weight_lt_to = top_room c.requires c.in_ok-top.ensures }
 
 pub returns : goal.returns
 unfolding step.freeze_ref

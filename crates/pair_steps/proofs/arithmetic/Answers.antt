@@ -1,33 +1,30 @@
--- Two integers of one type: what is pushed is the lower of them, which stands there already.
+-- What is pushed is the lower of two integers of one type, which stands there already.
+use mathlib.Core.Path.{sym, ◌∙◌}
+use Rattle.std.specs.Prelude.{◌≡◌, Bool, ◌&&◌, true, false}
 use Rattle.definitions.specs.TypeSafety as step
-use Rattle.type_stack.specs.Answers.{exit_is}
-use Rattle.type_stack.specs.Stepping.{two_none, two_then, check_then, check_bad}
-use Rattle.operand_steps.specs.Operands.{operand, span, same_type, no_left, no_right, yes_both, push_second}
+use Rattle.definitions.specs.SignatureToken.{SignatureToken, same, is_integer}
+use Rattle.signature_token.specs.Same.{same_is}
+use Rattle.type_stack.specs.Stepping.{two_then, check_then, check_bad}
+use Rattle.operand_steps.specs.Operands.{operand, span, push_second}
 use Rattle.pair_steps.proofs.arithmetic.Goals as goal
 
-pub returns-in_err-top : goal.returns-in_err-top
-unfolding step.arithmetic
-returns-in_err-top c = rw (exit_is c.from_residual.ensures.1) (two_none c.in_err-top.ensures _)
+-- what the test says of them where it says yes
+equal_types : (t u : SignatureToken) → (is_integer t && same t u) ≡ true → t ≡ u
+equal_types t u e = go (is_integer t) e
+  where
+    go : (b : Bool) → (b && same t u) ≡ true → t ≡ u
+    go true f = same_is t u f
+    go false f = absurd cc
 
-pub returns-then-same_type : goal.returns-then-same_type
+pub returns-then-same_integers : goal.returns-then-same_integers
 unfolding step.arithmetic
-returns-then-same_type c =
-    two_then c.in_ok-top.ensures
-    (λ t u p q. check_then _ _
-    (yes_both (c.is_integer.ensures (operand p)) c.if-is_integer.true
-    (c.same_type.ensures (span p) (operand q)) c.if-same_type.true)
-    (push_second c.requires c.in_ok-top.ensures q (same_type p c.same_type.ensures c.if-same_type.true q)))
+returns-then-same_integers c =
+    two_then c.in_ok-operand1.ensures
+    (λ t u p q. let e = sym (c.same_integers.ensures (span p) (operand q)) ∙ c.if-same_integers.true in
+    check_then _ _ e (push_second c.requires c.in_ok-operand1.ensures q (equal_types t u e)))
 
-pub returns-else-same_type : goal.returns-else-same_type
+pub returns : goal.returns
 unfolding step.arithmetic
-returns-else-same_type c =
-    two_then c.in_ok-top.ensures
-    (λ t u p q. check_bad _
-    (no_right (c.is_integer.ensures (operand p)) c.if-is_integer.true
-    (c.same_type.ensures (span p) (operand q)) c.if-same_type.false))
-
-pub returns-else-is_integer : goal.returns-else-is_integer
-unfolding step.arithmetic
-returns-else-is_integer c =
-    two_then c.in_ok-top.ensures
-    (λ t u p q. check_bad _ (no_left _ (c.is_integer.ensures (operand p)) c.if-is_integer.false))
+returns c =
+    two_then c.in_ok-operand1.ensures
+    (λ t u p q. check_bad _ (sym (c.same_integers.ensures (span p) (operand q)) ∙ c.if-same_integers.false))

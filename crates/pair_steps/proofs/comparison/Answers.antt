@@ -1,35 +1,19 @@
--- Two integers of one type, and a bool pushed in their place.
+-- A bool is pushed in place of two integers of one type.
+use mathlib.Core.Path.{sym, ◌∙◌}
 use Rattle.definitions.specs.TypeSafety as step
 use Rattle.signature_token.specs.TokenLaws.{is_bool}
-use Rattle.type_stack.specs.Answers.{exit_is}
-use Rattle.type_stack.specs.Stepping.{two_none, two_then, check_then, check_bad}
-use Rattle.operand_steps.specs.Operands.{operand, span, no_left, no_right, yes_both, push_leaf}
+use Rattle.type_stack.specs.Stepping.{two_then, check_then, check_bad}
+use Rattle.operand_steps.specs.Operands.{operand, span, push_leaf}
 use Rattle.pair_steps.proofs.comparison.Goals as goal
 
-pub returns-in_err-top : goal.returns-in_err-top
+pub returns-then-same_integers : goal.returns-then-same_integers
 unfolding step.comparison
-returns-in_err-top c = rw (exit_is c.from_residual.ensures.1) (two_none c.in_err-top.ensures _)
+returns-then-same_integers c =
+    two_then c.in_ok-operand1.ensures
+    (λ t u p q. check_then _ _ (sym (c.same_integers.ensures (span p) (operand q)) ∙ c.if-same_integers.true) (push_leaf c.push_leaf.ensures is_bool))
 
-pub returns-then-same_type : goal.returns-then-same_type
+pub returns : goal.returns
 unfolding step.comparison
-returns-then-same_type c =
-    two_then c.in_ok-top.ensures
-    (λ t u p q. check_then _ _
-    (yes_both (c.is_integer.ensures (operand p))
-    c.if-is_integer.true
-    (c.same_type.ensures (span p) (operand q)) c.if-same_type.true)
-    (push_leaf c.push_leaf.ensures is_bool))
-
-pub returns-else-same_type : goal.returns-else-same_type
-unfolding step.comparison
-returns-else-same_type c =
-    two_then c.in_ok-top.ensures
-    (λ t u p q. check_bad _
-    (no_right (c.is_integer.ensures (operand p)) c.if-is_integer.true
-    (c.same_type.ensures (span p) (operand q)) c.if-same_type.false))
-
-pub returns-else-is_integer : goal.returns-else-is_integer
-unfolding step.comparison
-returns-else-is_integer c =
-    two_then c.in_ok-top.ensures
-    (λ t u p q. check_bad _ (no_left _ (c.is_integer.ensures (operand p)) c.if-is_integer.false))
+returns c =
+    two_then c.in_ok-operand1.ensures
+    (λ t u p q. check_bad _ (sym (c.same_integers.ensures (span p) (operand q)) ∙ c.if-same_integers.false))

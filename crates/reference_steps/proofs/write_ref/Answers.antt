@@ -3,14 +3,10 @@
 use mathlib.Core.Path.{refl, sym, ◌∙◌}
 use Rattle.definitions.specs.TypeSafety as step
 use Rattle.type_stack.specs.Answers.{exit_is}
-use Rattle.type_stack.specs.Stepping.{two_none, two_then, look_then, look_bad, check_then, check_bad, check_last, check_last_bad}
+use Rattle.type_stack.specs.Stepping.{two_then, look_then, look_bad, check_then, check_bad, check_last, check_last_bad}
 use Rattle.operand_steps.specs.Operands.{span, referent, refers_mutably, mutable_is, no_mutable}
 use Rattle.step_views.specs.Checks.{ability_then, ability_bad}
 use Rattle.reference_steps.proofs.write_ref.Goals as goal
-
-pub returns-in_err-top : goal.returns-in_err-top
-unfolding step.write_ref
-returns-in_err-top c = rw (exit_is c.from_residual.ensures.1) (two_none c.in_err-top.ensures _)
 
 pub returns-in_default : goal.returns-in_default
 unfolding step.write_ref

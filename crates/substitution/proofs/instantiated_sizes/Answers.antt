@@ -5,7 +5,7 @@ use Rattle.std.proofs.lemmas.Result.{err_from_is_err_and}
 use Rattle.type_places.specs.Arguments.{type_found, type_missing}
 use Rattle.signature_token.specs.Lists.{type_left}
 use Rattle.signature_token.specs.Passing.{leaf_within, struct_within, parameter_within, wrapped_less, instantiation_less, instantiation_passed, left_room}
-use Rattle.substitution.specs.Counting.{passing, counted_start, counted_done, leaf_counted, struct_counted, argument_counted}
+use Rattle.substitution.specs.Counting.{passing, counted_start, leaf_counted, struct_counted, argument_counted}
 use Rattle.substitution.specs.Counting.{argument_missing, wrapped_counted, instantiation_counted}
 use Rattle.substitution.proofs.instantiated_sizes.Goals as goal
 use Rattle.substitution.proofs.instantiated_sizes.Goals.{In-Leaf, In-Struct, In-TypeParameter}
@@ -81,6 +81,3 @@ pub loop-left-preserved : goal.loop-left-preserved
 loop-left-preserved c =
     argument_counted c.loop-left-test.true c.loop-left.invariant c.token.ensures.is c.in-TypeParameter.is
     (type_found c.get.ensures _ c.in_ok-argument-in-TypeParameter.ensures.value) c.size_of_argument-len.ensures
-
-pub returns : goal.returns
-returns c = counted_done c.loop-left.invariant (omega arith)

@@ -1,13 +1,12 @@
 -- The first type's own bytes, or its argument's, are those that the types give first.
 use native.Mathlib.Omega.{arith}
-use Rattle.std.specs.Prelude.{refl, ℕ, List, ◌<◌, ◌≤◌, length}
+use Rattle.std.specs.Prelude.{ℕ, List, ◌<◌, ◌≤◌, length}
 use Rattle.definitions.specs.Places.{TypeAt, TypesAt, EndOfType}
 use Rattle.signature_token.specs.Token.{at_some}
 use Rattle.signature_token.specs.TokenLaws.{instantiation_at}
 use Rattle.signature_token.specs.Lists.{type_left}
 use Rattle.signature_token.specs.Ends.{type_room, struct_end, parameter_end}
 use Rattle.signature_token.specs.Passing.{instantiation_left, left_room}
-use Rattle.substitution.specs.Bytes.{part_is}
 use Rattle.substitution_comparison.specs.Matching.{all_left, leaf_first, struct_first, wrapped_first, instantiation_first, parameter_first, parameter_none}
 use Rattle.substitution_comparison.proofs.match_first.Goals as goal
 
@@ -29,8 +28,7 @@ pub slice_bounds-match_part-end : goal.slice_bounds-match_part-end
 slice_bounds-match_part-end c = omega (arith, at_some (first c.requires.some_left c.args.types.stand))
 
 pub returns-in-Leaf : goal.returns-in-Leaf
-returns-in-Leaf c =
-    leaf_first c.requires.some_left c.token.ensures.is c.in-Leaf.is (rw (part_is c.args.types.bytes.now c.args.types.at 1) at c.match_part.ensures)
+returns-in-Leaf c = search leaf_first
 
 pub overflow_add-at-in-Wrapped : goal.overflow_add-at-in-Wrapped
 overflow_add-at-in-Wrapped c = omega (arith, at_some (first c.requires.some_left c.args.types.stand))
@@ -39,9 +37,7 @@ pub slice_bounds-match_part-end-in-Wrapped : goal.slice_bounds-match_part-end-in
 slice_bounds-match_part-end-in-Wrapped c = omega (arith, at_some (first c.requires.some_left c.args.types.stand))
 
 pub returns-in-Wrapped : goal.returns-in-Wrapped
-returns-in-Wrapped c =
-    wrapped_first c.requires.some_left c.token.ensures.is c.in-Wrapped.is c.args.types.stand
-    (rw (part_is c.args.types.bytes.now c.args.types.at 1) at c.match_part-in-Wrapped.ensures)
+returns-in-Wrapped c = search wrapped_first
 
 pub overflow_add-at-in-Struct : goal.overflow_add-at-in-Struct
 overflow_add-at-in-Struct c = omega (arith, room (struct_end c.token.ensures.is c.in-Struct.is) c.requires.some_left c.args.types.stand)
@@ -50,9 +46,7 @@ pub slice_bounds-match_part-end-in-Struct : goal.slice_bounds-match_part-end-in-
 slice_bounds-match_part-end-in-Struct c = omega (arith, room (struct_end c.token.ensures.is c.in-Struct.is) c.requires.some_left c.args.types.stand)
 
 pub returns-in-Struct : goal.returns-in-Struct
-returns-in-Struct c =
-    struct_first c.requires.some_left c.token.ensures.is c.in-Struct.is
-    (rw (part_is c.args.types.bytes.now c.args.types.at 3) at c.match_part-in-Struct.ensures)
+returns-in-Struct c = search struct_first
 
 pub overflow_add-at-in-StructInstantiation : goal.overflow_add-at-in-StructInstantiation
 overflow_add-at-in-StructInstantiation c =
@@ -69,14 +63,11 @@ overflow_add-left c =
     omega (arith, left_room (instantiation_left c.requires.some_left (all_left c.args.types.stand) c.token.ensures.is c.in-StructInstantiation.is))
 
 pub returns-in-StructInstantiation : goal.returns-in-StructInstantiation
-returns-in-StructInstantiation c =
-    instantiation_first c.requires.some_left c.token.ensures.is c.in-StructInstantiation.is c.args.types.stand
-    (rw (part_is c.args.types.bytes.now c.args.types.at 4) at c.match_part-in-StructInstantiation.ensures)
+returns-in-StructInstantiation c = search instantiation_first
 
 pub returns-in_err-get-in-TypeParameter : goal.returns-in_err-get-in-TypeParameter
 returns-in_err-get-in-TypeParameter c =
-    rw c.from_residual.ensures
-    (parameter_none c.requires.some_left c.token.ensures.is c.in-TypeParameter.is (c.in_err-get-in-TypeParameter.ensures.none refl))
+    rw c.from_residual.ensures (parameter_none c.requires.some_left c.token.ensures.is c.in-TypeParameter.is c.in_err-get-in-TypeParameter.ensures)
 
 pub overflow_add-at-in-TypeParameter : goal.overflow_add-at-in-TypeParameter
 overflow_add-at-in-TypeParameter c =
@@ -84,5 +75,4 @@ overflow_add-at-in-TypeParameter c =
 
 pub returns-in_ok-get-in-TypeParameter : goal.returns-in_ok-get-in-TypeParameter
 returns-in_ok-get-in-TypeParameter c =
-    parameter_first c.requires.some_left c.token.ensures.is c.in-TypeParameter.is (c.in_ok-get-in-TypeParameter.ensures.some _ refl)
-    c.match_argument.ensures
+    parameter_first c.requires.some_left c.token.ensures.is c.in-TypeParameter.is c.in_ok-get-in-TypeParameter.ensures c.match_argument.ensures

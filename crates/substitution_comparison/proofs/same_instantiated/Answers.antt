@@ -2,7 +2,7 @@ use native.Mathlib.Omega.{arith}
 use Rattle.std.specs.Prelude.{refl}
 use Rattle.signature_token.specs.Token.{at_some}
 use Rattle.signature_token.specs.Lists.{type_left}
-use Rattle.substitution_comparison.specs.Matching.{all_left, agreed_start, agreed_on, agreed_no, agreed_done}
+use Rattle.substitution_comparison.specs.Matching.{all_left, agreed_start, agreed_on, agreed_done}
 use Rattle.substitution_comparison.proofs.same_instantiated.Goals as goal
 
 pub loop-left-init : goal.loop-left-init
@@ -10,9 +10,6 @@ loop-left-init c = agreed_start c.args.found.stands
 
 pub invariant_of-types : goal.invariant_of-types
 invariant_of-types c = record { stand = (c.loop-left.invariant.is c.args.ty.stands c.args.args.stand).next }
-
-pub returns-in_default : goal.returns-in_default
-returns-in_default c = agreed_no c.loop-left.invariant (rw c.in_default.is at c.match_first.ensures)
 
 pub loop-left-smaller : goal.loop-left-smaller
 loop-left-smaller c =

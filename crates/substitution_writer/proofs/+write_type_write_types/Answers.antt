@@ -3,11 +3,11 @@ use Rattle.std.proofs.Common.{refl}
 use Rattle.type_places.specs.Arguments.{type_there}
 use Rattle.signature_token.specs.Ends.{type_room, inner_falls, struct_end, parameter_end}
 use Rattle.signature_token.specs.Token.{at_some}
-use Rattle.signature_token.specs.TokenLaws.{inner_type, inner_types, instantiation_at, leaf_byte}
+use Rattle.signature_token.specs.TokenLaws.{inner_type, inner_types, instantiation_at}
 use Rattle.substitution.specs.Bytes.{part_long, put_long, part_put, part_fits, byte_put}
 use Rattle.substitution.specs.Filling.{leaf_fits, struct_fits, wrapped_fits, instantiation_fits, wrapped_room, instantiation_room, parameter_within, parameter_room, placed_room}
-use Rattle.substitution_writer.specs.Write.{leaf_wrote, wrapped_wrote, struct_wrote, instantiation_wrote, parameter_wrote}
-use Rattle.substitution_writer.specs.Write.{writing_start, writing_next, writing_done, writing_room, writing_onward, writing_long}
+use Rattle.substitution_writer.specs.Write.{wrapped_wrote, struct_wrote, instantiation_wrote, parameter_wrote}
+use Rattle.substitution_writer.specs.Write.{writing_room, writing_onward, writing_long}
 use Rattle.substitution_writer.proofs.+write_type_write_types.Goals as goal
 
 -- ── a leaf ──
@@ -17,12 +17,6 @@ write_type-bounds-out-w t c = omega (arith, (leaf_fits c.token.ensures.is c.requ
 
 pub write_type-overflow_add-result : goal.write_type-overflow_add-result
 write_type-overflow_add-result t c = omega (arith, at_some c.args.ty.stands)
-
-pub write_type-returns-in-Leaf : goal.write_type-returns-in-Leaf
-write_type-returns-in-Leaf t c =
-    let p = c.args.ty.stands in
-    leaf_wrote c.token.ensures.is c.in-Leaf.is
-    (rw (leaf_byte c.token.ensures.is p c.in-Leaf.is) at (byte_put c.args.out.now c.args.w c.args.ty.bytes.now c.args.ty.at (at_some p)))
 
 -- ── a vector or a reference ──
 
@@ -44,9 +38,7 @@ write_type-write_type-requires t c =
     (omega (arith, inner_falls w p e, c.decreases), rw (put_long k) (wrapped_room w c.requires e refl))
 
 pub write_type-returns-in-Wrapped : goal.write_type-returns-in-Wrapped
-write_type-returns-in-Wrapped t c =
-    wrapped_wrote c.token.ensures.is c.in-Wrapped.is
-    (byte_put c.args.out.now c.args.w c.args.ty.bytes.now c.args.ty.at (at_some c.args.ty.stands)) c.write_type.ensures
+write_type-returns-in-Wrapped t c = search wrapped_wrote
 
 -- ── a struct ──
 
@@ -63,7 +55,7 @@ pub write_type-put-requires : goal.write_type-put-requires
 write_type-put-requires t c = part_fits (struct_fits c.token.ensures.is c.requires c.in-Struct.is)
 
 pub write_type-returns-in-Struct : goal.write_type-returns-in-Struct
-write_type-returns-in-Struct t c = struct_wrote c.token.ensures.is c.in-Struct.is (part_put c.args.ty.bytes.now c.args.ty.at 3 c.put.ensures)
+write_type-returns-in-Struct t c = search struct_wrote
 
 -- ── an instantiated struct ──
 
@@ -94,8 +86,7 @@ write_type-write_types-requires t c =
     )
 
 pub write_type-returns-in-StructInstantiation : goal.write_type-returns-in-StructInstantiation
-write_type-returns-in-StructInstantiation t c =
-    instantiation_wrote c.token.ensures.is c.in-StructInstantiation.is (part_put c.args.ty.bytes.now c.args.ty.at 4 c.put-after.ensures) c.write_types.ensures
+write_type-returns-in-StructInstantiation t c = search instantiation_wrote
 
 -- ── a parameter ──
 
@@ -110,13 +101,9 @@ write_type-write_argument-requires t c =
     placed_room (c.get.ensures.some _ c.unwrap.ensures) (parameter_room c.token.ensures.is c.requires c.in-TypeParameter.is)
 
 pub write_type-returns-in-TypeParameter : goal.write_type-returns-in-TypeParameter
-write_type-returns-in-TypeParameter t c =
-    parameter_wrote c.token.ensures.is c.in-TypeParameter.is (c.get.ensures.some _ c.unwrap.ensures) c.write_argument.ensures
+write_type-returns-in-TypeParameter t c = search parameter_wrote
 
 -- ── the types of a list ──
-
-pub write_types-loop-init : goal.write_types-loop-init
-write_types-loop-init t c = writing_start
 
 pub write_types-invariant_of-write_type : goal.write_types-invariant_of-write_type
 write_types-invariant_of-write_type t c = record { stands = (writing_room c.loop.invariant c.loop-test.true c.requires).filling.from }
@@ -128,9 +115,3 @@ write_types-write_type-one-requires t c =
       omega (arith, writing_onward g q.filling, c.decreases),
       rw (writing_long g q.filling) (writing_room g c.loop-test.true q),
     )
-
-pub write_types-loop-preserved : goal.write_types-loop-preserved
-write_types-loop-preserved t c = writing_next c.loop.invariant c.loop-test.true c.write_type-one.ensures
-
-pub write_types-returns : goal.write_types-returns
-write_types-returns t c = writing_done c.loop.invariant (omega arith)

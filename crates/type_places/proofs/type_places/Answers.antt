@@ -10,12 +10,6 @@ loop-i-init c = placing_start
 pub overflow_cast-out : goal.overflow_cast-out
 overflow_cast-out c = omega (arith, at_some (next_type c.loop-i-test.true (c.loop-i.invariant.each c.args.types.stand).rest), c.requires.1)
 
-pub offset_bounds-out-i : goal.offset_bounds-out-i
-offset_bounds-out-i c = omega (arith, c.requires.0, c.loop-i-test.true)
-
-pub bounds-out-i : goal.bounds-out-i
-bounds-out-i c = omega (arith, c.requires.0, c.loop-i-test.true, c.loop-i.invariant.long)
-
 pub invariant_of-end : goal.invariant_of-end
 invariant_of-end c = record { stands = next_type c.loop-i-test.true (c.loop-i.invariant.each c.args.types.stand).rest }
 

@@ -1,15 +1,10 @@
+-- `verify_block`: the laws of a walk along a block's instructions.
 use native.Mathlib.Omega.{arith}
-use Rattle.type_safety.specs.Walks.{in_block_start, in_block_next, in_block_refused, in_block_end}
+use Rattle.type_safety.specs.Walks.{in_block_start, in_block_next, in_block_end}
 use Rattle.type_safety.proofs.verify_block.Goals as goal
 
 pub loop-offset-init : goal.loop-offset-init
 loop-offset-init c = rw c.from-offset.ensures (in_block_start _ _ c.requires.stacked)
-
-pub verify_instr-requires : goal.verify_instr-requires
-verify_instr-requires c = record { stacked = c.loop-offset.invariant.stacked; i_lt_count = omega (arith, c.requires.first_le_last) }
-
-pub returns-in-Err : goal.returns-in-Err
-returns-in-Err c = in_block_refused c.loop-offset.invariant (omega arith) (omega arith) c.in-Err.ensures (omega arith)
 
 pub loop-offset-preserved : goal.loop-offset-preserved
 loop-offset-preserved c = in_block_next c.loop-offset.invariant (omega arith) (omega arith) c.in-Ok.ensures

@@ -1,17 +1,12 @@
-use mathlib.Core.Path.{◌∙◌}
+-- `verify_blocks`: the laws of a walk along the blocks.
 use native.Mathlib.Omega.{arith}
 use Rattle.unit_tables.specs.Tables.{table_count, blocks_in}
 use Rattle.unit_tables.specs.Compiled.{unit_read}
-use Rattle.type_safety.specs.Walks.{in_blocks_start, clean_start, in_blocks_next, clean_next, in_blocks_stopped, types_refused, in_blocks_end}
+use Rattle.type_safety.specs.Walks.{in_blocks_start, clean_start, in_blocks_next, clean_next, in_blocks_stopped, in_blocks_end}
 use Rattle.type_safety.proofs.verify_blocks.Goals as goal
 
 pub loop-block_id-init : goal.loop-block_id-init
 loop-block_id-init c = (in_blocks_start _ c.requires, λ e. clean_start _ _)
-
-pub verify_block-requires : goal.verify_block-requires
-verify_block-requires c =
-    let found = c.block_at-block.ensures in
-    record { stacked = c.loop-block_id.invariant.0.stacked; first_le_last = (found.ordered, found.within) }
 
 pub loop-block_id-preserved : goal.loop-block_id-preserved
 loop-block_id-preserved c =
@@ -21,13 +16,8 @@ loop-block_id-preserved c =
       λ e. clean_next inv.0 found c.in-Ok.ensures inv.1 e,
     )
 
-pub overflow_cast-position : goal.overflow_cast-position
-overflow_cast-position c = omega (arith, (in_blocks_stopped c.loop-block_id.invariant.0 c.block_at-block.ensures.is c.in-Err.ensures).0)
-
 pub returns-in-Err : goal.returns-in-Err
-returns-in-Err c =
-    let stopped = in_blocks_stopped c.loop-block_id.invariant.0 c.block_at-block.ensures.is c.in-Err.ensures in
-    types_refused (c.refusal_at.ensures ∙ stopped.1)
+returns-in-Err c = in_blocks_stopped c.loop-block_id.invariant.0 c.block_at-block.ensures.is c.in-Err.ensures c.refusal_at.ensures
 
 pub returns : goal.returns
 returns c =

@@ -5,44 +5,32 @@ use Rattle.definitions.specs.TypeSafety as step
 use Rattle.signature_token.specs.TokenLaws.{is_u64}
 use Rattle.type_stack.specs.Answers.{exit_is}
 use Rattle.type_stack.specs.Stepping.{two_none, two_then, check_then, check_bad}
-use Rattle.type_stack.specs.Tops.{topped_two}
-use Rattle.operand_steps.specs.Operands.{operand, span}
-use Rattle.copied_pushes.specs.Standing.{push_reference}
-use Rattle.step_views.specs.Looked.{found_type, type_then, looked_bad, unit_room}
+use Rattle.operand_steps.specs.Operands.{operand}
+use Rattle.copied_pushes.specs.Standing.{type_end, push_reference}
+use Rattle.step_views.specs.Looked.{type_then}
 use Rattle.vector_elements.specs.Elements.{element_then, element_bad}
-use Rattle.vector_elements.specs.Found.{found_within, found_short}
 use Rattle.vector_borrow_steps.proofs.borrow_vector_element.Goals as goal
-
-pub returns-in_err-at : goal.returns-in_err-at
-unfolding step.borrow_vector_element
-returns-in_err-at c = rw (exit_is c.from_residual.ensures.1) (looked_bad _ c.in_err-at.ensures)
 
 pub returns-in_err-top : goal.returns-in_err-top
 unfolding step.borrow_vector_element
-returns-in_err-top c = rw (exit_is c.from_residual-in_err-top.ensures.1) (type_then _ c.in_ok-at.ensures (λ q. two_none c.in_err-top.ensures _))
+returns-in_err-top c = rw (exit_is c.from_residual-in_err-top.ensures.1) (type_then _ c.in_ok-declared.ensures.value (λ q. two_none c.in_err-top.ensures _))
 
-pub element_is-requires : goal.element_is-requires
-element_is-requires c = span (topped_two c.requires c.in_ok-top.ensures).1.here
-
-pub slice_bounds-push_wrapped-end : goal.slice_bounds-push_wrapped-end
-slice_bounds-push_wrapped-end c = (found_within (found_type c.in_ok-at.ensures) c.end-end.ensures).1
-
-pub push_wrapped-requires-clause-short : goal.push_wrapped-requires-clause-short
-push_wrapped-requires-clause-short c = found_short (found_type c.in_ok-at.ensures) c.end-end.ensures (unit_room c.args.unit.now)
+pub slice_bounds-bytes-end : goal.slice_bounds-bytes-end
+slice_bounds-bytes-end c = type_end c.in_ok-declared.declared.stands c.end.ensures
 
 pub returns-then-element_is : goal.returns-then-element_is
 unfolding step.borrow_vector_element
 returns-then-element_is c =
-    type_then _ c.in_ok-at.ensures
+    type_then _ c.in_ok-declared.ensures.value
     (λ q. two_then c.in_ok-top.ensures
     (λ t u h g. check_then _ _ (sym (c.is_leaf.ensures (operand h) U64 is_u64) ∙ c.if-is_leaf.true)
     (element_then c.element_is.ensures g q _ c.if-element_is.true
-    (push_reference q c.end-end.ensures c.reference_command-command.ensures c.push_wrapped.ensures))))
+    (push_reference q c.end.ensures c.reference_command-command.ensures c.push_wrapped.ensures))))
 
 pub returns-else-element_is : goal.returns-else-element_is
 unfolding step.borrow_vector_element
 returns-else-element_is c =
-    type_then _ c.in_ok-at.ensures
+    type_then _ c.in_ok-declared.ensures.value
     (λ q. two_then c.in_ok-top.ensures
     (λ t u h g. check_then _ _ (sym (c.is_leaf.ensures (operand h) U64 is_u64) ∙ c.if-is_leaf.true)
     (element_bad c.element_is.ensures g q _ c.if-element_is.false)))
@@ -50,6 +38,6 @@ returns-else-element_is c =
 pub returns-else-is_leaf : goal.returns-else-is_leaf
 unfolding step.borrow_vector_element
 returns-else-is_leaf c =
-    type_then _ c.in_ok-at.ensures
+    type_then _ c.in_ok-declared.ensures.value
     (λ q. two_then c.in_ok-top.ensures
     (λ t u h g. check_bad _ (sym (c.is_leaf.ensures (operand h) U64 is_u64) ∙ c.if-is_leaf.false)))

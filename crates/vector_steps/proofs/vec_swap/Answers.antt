@@ -3,14 +3,10 @@ use Rattle.definitions.specs.TypeSafety as step
 use Rattle.definitions.specs.SignatureToken.{U64}
 use Rattle.signature_token.specs.TokenLaws.{is_u64}
 use Rattle.type_stack.specs.Answers.{exit_is}
-use Rattle.type_stack.specs.Stepping.{two_none, two_then, pop_none, pop_then, check_then, check_bad}
+use Rattle.type_stack.specs.Stepping.{two_then, pop_none, pop_then, check_then, check_bad}
 use Rattle.operand_steps.specs.Operands.{operand, no_left, no_right, yes_both}
 use Rattle.vector_steps.specs.Named.{named_last, named_last_bad}
 use Rattle.vector_steps.proofs.vec_swap.Goals as goal
-
-pub returns-in_err-top : goal.returns-in_err-top
-unfolding step.vec_swap
-returns-in_err-top c = rw (exit_is c.from_residual.ensures.1) (two_none c.in_err-top.ensures _)
 
 pub returns-in_err-vector : goal.returns-in_err-vector
 unfolding step.vec_swap
@@ -25,7 +21,7 @@ returns-in_err-named_element c =
     (λ v k. check_then _ _
     (yes_both (c.is_leaf.ensures (operand g) U64 is_u64) c.if-is_leaf.true
     (c.is_leaf-then-is_leaf.ensures (operand h) U64 is_u64) c.if-is_leaf-2.true)
-    (named_last_bad c.in_err-named_element.ensures k))))
+    (named_last_bad c.in_err-named_element.ensures.is k))))
 
 pub returns-then-is_leaf-2 : goal.returns-then-is_leaf-2
 unfolding step.vec_swap
@@ -35,7 +31,7 @@ returns-then-is_leaf-2 c =
     (λ v k. check_then _ _
     (yes_both (c.is_leaf.ensures (operand g) U64 is_u64) c.if-is_leaf.true
     (c.is_leaf-then-is_leaf.ensures (operand h) U64 is_u64) c.if-is_leaf-2.true)
-    (named_last c.in_ok-named_element.ensures k)))
+    (named_last c.in_ok-named_element.ensures.is k)))
 
 pub returns-else-is_leaf-2 : goal.returns-else-is_leaf-2
 unfolding step.vec_swap

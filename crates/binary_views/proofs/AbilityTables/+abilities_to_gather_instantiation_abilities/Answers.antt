@@ -1,10 +1,10 @@
-use Rattle.std.specs.Prelude.{get_or, refl}
-use Rattle.std.proofs.Common.{sym, inl, inr, length-take-le, arith, ◌<◌, ◌+◌, length}
+use Rattle.std.specs.Prelude.{refl}
+use Rattle.std.proofs.Common.{sym, inl, inr, arith}
 use Rattle.file_format.specs.Answers.{handed_on}
 use Rattle.signature_token.specs.TokenLaws.{inner_type, inner_types}
 use Rattle.signature_token.specs.Ends.{leaf_end, struct_end, parameter_end, inner_falls}
 use Rattle.binary_views.specs.Abilities.{end_room, leaf_abilities, vector_abilities, vector_refused, reference_abilities, struct_abilities}
-use Rattle.binary_views.specs.Abilities.{parameter_abilities, arguments_fit, instantiation_falls}
+use Rattle.binary_views.specs.Abilities.{parameter_abilities, instantiation_falls}
 use Rattle.binary_views.specs.Abilities.{instantiation_type, instantiation_past, argument_refused, instantiation_abilities}
 use Rattle.binary_views.specs.Gathering.{gathering_start, gathering_type, gathering_next, gathering_refused, gathering_done}
 use Rattle.binary_views.proofs.AbilityTables.+abilities_to_gather_instantiation_abilities.Goals as goal
@@ -14,12 +14,12 @@ use Rattle.binary_views.proofs.AbilityTables.+abilities_to_gather_instantiation_
 pub abilities_to-overflow_add-result : goal.abilities_to-overflow_add-result
 abilities_to-overflow_add-result t c = omega (arith, end_room (leaf_end c.token.ensures.is c.in-Leaf.is) c.args.ty.stands)
 
-pub abilities_to-overflow_add-result-in-Struct : goal.abilities_to-overflow_add-result-in-Struct
-abilities_to-overflow_add-result-in-Struct t c = omega (arith, end_room (struct_end c.token.ensures.is c.in-Struct.is) c.args.ty.stands)
+pub abilities_to-overflow_add-at : goal.abilities_to-overflow_add-at
+abilities_to-overflow_add-at t c = omega (arith, end_room (struct_end c.token.ensures.is c.in-Struct.is) c.args.ty.stands)
 
-pub abilities_to-overflow_add-result-in-TypeParameter :
-    goal.abilities_to-overflow_add-result-in-TypeParameter
-abilities_to-overflow_add-result-in-TypeParameter t c = omega (arith, end_room (parameter_end c.token.ensures.is c.in-TypeParameter.is) c.args.ty.stands)
+pub abilities_to-overflow_add-at-in-TypeParameter :
+    goal.abilities_to-overflow_add-at-in-TypeParameter
+abilities_to-overflow_add-at-in-TypeParameter t c = omega (arith, end_room (parameter_end c.token.ensures.is c.in-TypeParameter.is) c.args.ty.stands)
 
 pub abilities_to-abilities_to-requires : goal.abilities_to-abilities_to-requires
 abilities_to-abilities_to-requires t c =
@@ -35,14 +35,13 @@ pub abilities_to-instantiation_abilities-requires :
 abilities_to-instantiation_abilities-requires t c =
     let w = c.token.ensures.is in
     let e = c.in-StructInstantiation.is in
-    let b = rw e at c.token.ensures.few in
-    (omega (arith, instantiation_falls w c.args.ty.stands e b, c.decreases), arguments_fit w c.args.ty.stands e b)
+    omega (arith, instantiation_falls w c.args.ty.stands e (rw e at c.token.ensures.few), c.decreases)
 
 pub abilities_to-invariant_of-inner-in-Reference : goal.abilities_to-invariant_of-inner-in-Reference
 abilities_to-invariant_of-inner-in-Reference t c = record { stands = inner_type c.token.ensures.is c.args.ty.stands c.in-Wrapped.is }
 
-pub abilities_to-invariant_of-instantiation_abilities : goal.abilities_to-invariant_of-instantiation_abilities
-abilities_to-invariant_of-instantiation_abilities t c = record { stand = inner_types c.token.ensures.is c.args.ty.stands c.in-StructInstantiation.is }
+pub abilities_to-invariant_of-types : goal.abilities_to-invariant_of-types
+abilities_to-invariant_of-types t c = record { stand = inner_types c.token.ensures.is c.args.ty.stands c.in-StructInstantiation.is }
 
 pub abilities_to-returns-in-Leaf : goal.abilities_to-returns-in-Leaf
 abilities_to-returns-in-Leaf t c = rw c.leaf_abilities.ensures (leaf_abilities c.token.ensures.is c.in-Leaf.is)
@@ -53,16 +52,10 @@ abilities_to-returns-in_err-element-in-Vector t c =
     rw (handed_on _ c.from_residual.ensures.1)
     (vector_refused c.token.ensures.is (rw c.in-Vector.is at c.in-Wrapped.is) c.in_err-element-in-Vector.ensures)
 
-pub abilities_to-returns-in_err-vector_abilities-in-Vector :
-    goal.abilities_to-returns-in_err-vector_abilities-in-Vector
-abilities_to-returns-in_err-vector_abilities-in-Vector t c =
-    rw (handed_on _ c.from_residual-in_err-vector_abilities-in-Vector.ensures.1)
-    (vector_abilities c.token.ensures.is (rw c.in-Vector.is at c.in-Wrapped.is) c.in_ok-element-in-Vector.ensures c.in_err-vector_abilities-in-Vector.ensures)
-
-pub abilities_to-returns-in_ok-vector_abilities-in-Vector :
-    goal.abilities_to-returns-in_ok-vector_abilities-in-Vector
-abilities_to-returns-in_ok-vector_abilities-in-Vector t c =
-    vector_abilities c.token.ensures.is (rw c.in-Vector.is at c.in-Wrapped.is) c.in_ok-element-in-Vector.ensures c.in_ok-vector_abilities-in-Vector.ensures
+pub abilities_to-returns-in_ok-element-in-Vector : goal.abilities_to-returns-in_ok-element-in-Vector
+abilities_to-returns-in_ok-element-in-Vector t c =
+    rw c.ending_at.ensures
+    (vector_abilities c.token.ensures.is (rw c.in-Vector.is at c.in-Wrapped.is) c.in_ok-element-in-Vector.ensures c.vector_abilities.ensures)
 
 pub abilities_to-returns-in-Reference : goal.abilities_to-returns-in-Reference
 abilities_to-returns-in-Reference t c =
@@ -72,31 +65,17 @@ abilities_to-returns-in-Reference t c =
       | inr e ↦ reference_abilities w c.in-Wrapped.is (λ k. cc) c.end.ensures
     ]
 
-pub abilities_to-returns-in_err-struct_abilities-in-Struct :
-    goal.abilities_to-returns-in_err-struct_abilities-in-Struct
-abilities_to-returns-in_err-struct_abilities-in-Struct t c =
-    rw (handed_on _ c.from_residual-in_err-struct_abilities-in-Struct.ensures.1)
-    (struct_abilities c.token.ensures.is c.in-Struct.is c.in_err-struct_abilities-in-Struct.ensures)
-
-pub abilities_to-returns-in_ok-struct_abilities-in-Struct :
-    goal.abilities_to-returns-in_ok-struct_abilities-in-Struct
-abilities_to-returns-in_ok-struct_abilities-in-Struct t c =
-    struct_abilities c.token.ensures.is c.in-Struct.is c.in_ok-struct_abilities-in-Struct.ensures
+pub abilities_to-returns-in-Struct : goal.abilities_to-returns-in-Struct
+abilities_to-returns-in-Struct t c =
+    rw c.ending_at-in-Struct.ensures (struct_abilities c.token.ensures.is c.in-Struct.is c.struct_abilities.ensures)
 
 pub abilities_to-returns-in-StructInstantiation : goal.abilities_to-returns-in-StructInstantiation
 abilities_to-returns-in-StructInstantiation t c =
     instantiation_type c.token.ensures.is c.in-StructInstantiation.is c.instantiation_abilities.ensures
 
-pub abilities_to-returns-in_err-type_parameter_abilities-in-TypeParameter :
-    goal.abilities_to-returns-in_err-type_parameter_abilities-in-TypeParameter
-abilities_to-returns-in_err-type_parameter_abilities-in-TypeParameter t c =
-    rw (handed_on _ c.from_residual-in_err-type_parameter_abilities-in-TypeParameter.ensures.1)
-    (parameter_abilities c.token.ensures.is c.in-TypeParameter.is c.in_err-type_parameter_abilities-in-TypeParameter.ensures)
-
-pub abilities_to-returns-in_ok-type_parameter_abilities-in-TypeParameter :
-    goal.abilities_to-returns-in_ok-type_parameter_abilities-in-TypeParameter
-abilities_to-returns-in_ok-type_parameter_abilities-in-TypeParameter t c =
-    parameter_abilities c.token.ensures.is c.in-TypeParameter.is c.in_ok-type_parameter_abilities-in-TypeParameter.ensures
+pub abilities_to-returns-in-TypeParameter : goal.abilities_to-returns-in-TypeParameter
+abilities_to-returns-in-TypeParameter t c =
+    rw c.ending_at-in-TypeParameter.ensures (parameter_abilities c.token.ensures.is c.in-TypeParameter.is c.type_parameter_abilities.ensures)
 
 -- ── the arguments ──
 
@@ -130,12 +109,6 @@ pub instantiation_abilities-returns-in_err-end : goal.instantiation_abilities-re
 instantiation_abilities-returns-in_err-end t c =
     rw (handed_on _ c.from_residual-in_err-end.ensures.1) (argument_refused c.in_ok-p.ensures.is refl c.in_err-end.ensures)
 
-pub instantiation_abilities-returns-in_err-instantiated_abilities :
-    goal.instantiation_abilities-returns-in_err-instantiated_abilities
-instantiation_abilities-returns-in_err-instantiated_abilities t c =
-    rw (handed_on _ c.from_residual-in_err-instantiated_abilities.ensures.1)
-    (instantiation_abilities c.in_ok-p.ensures.is refl c.in_ok-end.ensures c.in_err-instantiated_abilities.ensures)
-
 pub instantiation_abilities-returns : goal.instantiation_abilities-returns
 instantiation_abilities-returns t c =
-    instantiation_abilities c.in_ok-p.ensures.is refl c.in_ok-end.ensures c.in_ok-instantiated_abilities.ensures
+    rw c.ending_at.ensures (instantiation_abilities c.in_ok-p.ensures.is refl c.in_ok-end.ensures c.instantiated_abilities.ensures)

@@ -13,7 +13,7 @@ abbrev pub decreases-gather : goal.decreases-gather
 decreases-gather l = list_measure l.types.bytes.now l.types.at l.types.count
 
 abbrev pub decreases-instantiation_abilities : goal.decreases-instantiation_abilities
-decreases-instantiation_abilities l = struct_measure l.arguments.bytes.now l.arguments.at l.arguments.count
+decreases-instantiation_abilities l = struct_measure l.arguments.types.bytes.now l.arguments.types.at l.arguments.types.count
 
 abbrev pub invariant-gather-loop-set : goal.invariant-gather-loop-set
 invariant-gather-loop-set l =

@@ -7,6 +7,6 @@ use Rattle.materialize_type.proofs.MaterializedType.new.Goals as goal
 
 pub returns-clause-made : goal.returns-clause-made
 returns-clause-made c =
-    let types = c.args.type_args in
+    let types = c.args.type_args.types in
     λ q. ap (λ (p : TypesAt types.bytes.now types.at types.count). materialized c.args.struct_handle.0 p.types)
     (TypesAt-prop types.bytes.now types.at types.count types.stand q)

@@ -1,25 +1,20 @@
 -- The command is copied, and the arguments behind it.
 use native.Mathlib.Omega.{arith}
 use Rattle.std.specs.Prelude.{length, drop, ◌≤◌, ◌+◌}
-use Rattle.std.proofs.Common.{sym, ap, ◌∙◌, length-append, length-drop, length-take-le}
-use Rattle.theorems.specs.AtLaws.{at_room}
-use Rattle.materialize_type.proofs.Materialize.{command_there, length_short, written, size_is}
+use Rattle.std.proofs.Common.{sym, ◌∙◌, length-append, length-drop, length-take-le}
+use Rattle.materialize_type.proofs.Materialize.{head_long, room_made, written, size_is}
 use Rattle.materialize_type.proofs.MaterializedType.write_to.Goals as goal
 use Rattle.materialize_type.proofs.MaterializedType.write_to.Goals.{After-arguments-args}
 
 -- there is room for both
 room : (c : After-arguments-args) → c.command_length-k.result + length c.arguments-args.result.now ≤ length c.args.out.now
 room c =
-    let q = c.args.self.type_args.stand in
+    let q = c.args.self.type_args.types.stand in
     omega (
       arith,
-      size_is c.args.self.struct_handle.0 q.types q.counted c.command_length-k.ensures,
-      ap length c.arguments-args.ensures,
+      size_is c.args.self.struct_handle.0 q.types q.counted c.command_length-k.ensures c.arguments-args.ensures,
       c.requires,
     )
-
-pub slice_bounds-command-end : goal.slice_bounds-command-end
-slice_bounds-command-end c = command_there c.struct_command-command.ensures c.command_length-k.ensures
 
 pub slice_bounds-copy_from_slice-end : goal.slice_bounds-copy_from_slice-end
 slice_bounds-copy_from_slice-end c = omega (arith, room (goal.at.slice_bounds-copy_from_slice-end c).After-arguments-args)
@@ -28,19 +23,13 @@ pub slice_bounds-copy_from_slice-end-2 : goal.slice_bounds-copy_from_slice-end-2
 slice_bounds-copy_from_slice-end-2 c =
     sym (length-take-le c.command_length-k.result c.args.out.now (omega (arith, room (goal.at.slice_bounds-copy_from_slice-end-2 c).After-arguments-args)))
 
-pub slice_bounds-copy_from_slice-end-3 : goal.slice_bounds-copy_from_slice-end-3
-slice_bounds-copy_from_slice-end-3 c =
-    sym (length-take-le c.command_length-k.result c.struct_command-command.result (command_there c.struct_command-command.ensures c.command_length-k.ensures))
-
 pub copy_from_slice-requires : goal.copy_from_slice-requires
 copy_from_slice-requires c =
     length-take-le c.command_length-k.result c.args.out.now (omega (arith, room (goal.at.copy_from_slice-requires c).After-arguments-args))
-    ∙ sym (length-take-le c.command_length-k.result c.struct_command-command.result (command_there c.struct_command-command.ensures c.command_length-k.ensures))
+    ∙ head_long c.struct_command-command.ensures c.command_length-k.ensures
 
 pub overflow_add-k : goal.overflow_add-k
-overflow_add-k c =
-    let q = c.args.self.type_args.stand in
-    omega (arith, length_short c.command_length-k.ensures, at_room q.stands, ap length c.arguments-args.ensures)
+overflow_add-k c = omega (arith, room_made c.args.self.type_args.types.stand c.command_length-k.ensures c.arguments-args.ensures)
 
 pub slice_bounds-copy_from_slice-end-4 : goal.slice_bounds-copy_from_slice-end-4
 slice_bounds-copy_from_slice-end-4 c =
@@ -57,6 +46,6 @@ slice_bounds-copy_from_slice-end-4 c =
 
 pub returns : goal.returns
 returns c =
-    let q = c.args.self.type_args.stand in
+    let q = c.args.self.type_args.types.stand in
     rw (c.copy_from_slice-2.ensures.after, c.copy_from_slice.ensures.after, c.arguments-args.ensures)
     (written c.struct_command-command.ensures c.command_length-k.ensures q.types c.args.out.now q.counted)

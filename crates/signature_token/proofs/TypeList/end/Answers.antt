@@ -1,9 +1,7 @@
 -- One law of the walk for each shape of the type at hand.
-use Prim.Native.Nat.{◌+◌, ◌≤◌}
 use native.Mathlib.Omega.{arith}
-use lib.ListN.{length}
 use Rattle.signature_token.specs.Lists.{type_left, left_done}
-use Rattle.signature_token.specs.Passing.{passing_start, leaf_passed, index_passed, wrapped_passed, instantiation_passed}
+use Rattle.signature_token.specs.Passing.{leaf_passed, index_passed, wrapped_passed, instantiation_passed}
 use Rattle.signature_token.specs.Passing.{leaf_within, index_within, wrapped_less, instantiation_less, left_room}
 use Rattle.signature_token.proofs.TypeList.end.Goals as goal
 

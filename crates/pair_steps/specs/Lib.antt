@@ -1,0 +1,2 @@
+-- The module of this crate's specs.
+pub mod Integers

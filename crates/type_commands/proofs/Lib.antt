@@ -1,2 +1,0 @@
--- The modules of this crate's proofs.
-pub mod Arms
