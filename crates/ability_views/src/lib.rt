@@ -16,8 +16,8 @@ use signature_token::{SignatureView, TypeRef};
 use status::PartialVMResult;
 use unit_tables::UnitView;
 
-// A struct's declared abilities, and its type parameters: `count` bytes at `parameters`, 1 where one is phantom. The place is what is promised, not
-// the bytes alone.
+// A struct's declared abilities, and its type parameters: `count` bytes at `parameters`, 1 where one is phantom. By place and count, as its promise has
+// them, which speaks of the place too.
 #[derive(Clone, Copy)]
 pub struct StructHandle {
     pub abilities: AbilitySet,
@@ -25,9 +25,11 @@ pub struct StructHandle {
     pub count: usize,
 }
 
+// `struct_handle_at` of binary_views.rs. The passes ask for abilities alone, and `AbilityTables` has a look-up of its own for them, over the places of the
+// handles; this one is for callers that have a unit.
 #[tactic(auto, using(crate::specs::Lookups::handle_laws))]
 pub fn struct_handle_at(
-    unit: &UnitView<'_>,
+    unit: &UnitView<'_, '_>,
     idx: StructHandleIndex,
 ) -> PartialVMResult<StructHandle>
     ensures { ResultIs (HandleIs unit.now.bytes.now) (defs.struct_handle_at (compiled unit.now) idx.0) result }
@@ -43,7 +45,7 @@ pub fn struct_handle_at(
 // What the abilities of a type depend on: the struct handles, which are the first entries of the index, and the constraints of the function's
 // type parameters, the last part of its record, behind their count.
 #[tactic(auto, using(crate::specs::Function::context_laws))]
-fn ability_tables<'a>(unit: &UnitView<'a>) -> AbilityTables<'a>
+fn ability_tables<'a>(unit: &UnitView<'a, 'a>) -> AbilityTables<'a>
     ensures { ContextIs unit.now.bytes.now (compiled unit.now) result }
 {
     let handles = usize::from(unit.view.struct_handles.count);
@@ -57,7 +59,7 @@ fn ability_tables<'a>(unit: &UnitView<'a>) -> AbilityTables<'a>
 }
 
 // The abilities of a type, which stands in the unit or in the area.
-pub fn abilities(ty: TypeRef, unit: &UnitView<'_>) -> PartialVMResult<AbilitySet>
+pub fn abilities(ty: TypeRef, unit: &UnitView<'_, '_>) -> PartialVMResult<AbilitySet>
     ensures { (q : TypeAt ty.entry.bytes.now ty.entry.at) → AbilitiesIs (compiled unit.now) q.type result }
 {
     ability_tables(unit).abilities(ty)
@@ -65,7 +67,7 @@ pub fn abilities(ty: TypeRef, unit: &UnitView<'_>) -> PartialVMResult<AbilitySet
 
 // The abilities of the struct with these type arguments.
 pub fn struct_abilities(
-    unit: &UnitView<'_>,
+    unit: &UnitView<'_, '_>,
     h: StructHandleIndex,
     type_args: SignatureView,
 ) -> PartialVMResult<AbilitySet>

@@ -11,7 +11,7 @@ ghost use Rattle.binary_views.specs.Handles.{HandlesAt};
 ghost use Rattle.binary_views.specs.Abilities.{leaf_set, of_vector, ending_at, StructAbilitiesAt, InstantiatedAt, AbilitiesAt, MaterializedAbilities, AbilitiesToAt, InstantiationToAt, GatheredAt};
 
 use file_format::{AbilitySet, StructHandleIndex};
-use signature_token::{SignatureView, Token, TypeList, TypeRef, Wrapper};
+use signature_token::{SIGNER, SignatureView, Token, TypeList, TypeRef, Wrapper};
 use status::{PartialVMResult, StatusCode};
 
 // What abilities are looked up in: a unit, the places of its struct handles, and the abilities of the function's type parameters.
@@ -23,7 +23,7 @@ pub struct AbilityTables<'a> {
     pub ghost handles_at: { ∥ HandlesAt unit.now handles.now ∥₁ },
 }
 
-// The entry with an index of its table, where the Rust indexes a vector.
+// The entry of a table that has this index, where the Rust indexes a vector.
 #[tactic(auto, using(crate::specs::Tables::got))]
 fn entry_at<T: Copy>(table: &[T], i: usize) -> PartialVMResult<T>
     ensures { result ≡ answer (λ entry. entry) (at table.now i) }
@@ -35,7 +35,7 @@ fn entry_at<T: Copy>(table: &[T], i: usize) -> PartialVMResult<T>
 pub fn leaf_abilities(command: u8) -> AbilitySet
     ensures { result ≡ set_of (leaf_set command) }
 {
-    if command == 6 {
+    if command == SIGNER {
         AbilitySet::SIGNER
     } else {
         AbilitySet::PRIMITIVES
@@ -101,8 +101,8 @@ impl AbilityTables<'_> {
         Ok(set)
     }
 
-    // The same with the type's end, which the walk comes by, so that a walk along types goes on from there: were it asked of another walk, each
-    // level of a type would be walked once more. Only a reference's end is, since what is inside it has no say in the abilities.
+    // The same with the type's end, which this walk finds, so that a walk along types goes on from there: were it asked of another walk, each level
+    // of a type would be walked once more. Only a reference's end is, since its abilities do not depend on what is inside it.
     #[cycle(abilities_to_gather_instantiation_abilities)]
     fn abilities_to(&self, ty: TypeRef) -> PartialVMResult<(AbilitySet, usize)>
         ensures { AbilitiesToAt ty.entry.bytes.now ty.entry.at self.now.unit.now self.now.handles.now self.now.constraints.now result }

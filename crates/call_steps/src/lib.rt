@@ -18,7 +18,7 @@ use unit_tables::UnitView;
 fn call(
     area: &mut [u8],
     weight: usize,
-    unit: &UnitView<'_>,
+    unit: &UnitView<'_, '_>,
     handle: FunctionHandle,
     args: TypePlaces,
 ) -> PartialVMResult<usize>
@@ -37,7 +37,7 @@ fn call(
 pub fn function_call(
     area: &mut [u8],
     weight: usize,
-    unit: &UnitView<'_>,
+    unit: &UnitView<'_, '_>,
     idx: FunctionHandleIndex,
 ) -> PartialVMResult<usize>
     requires { Stacked area.old weight }
@@ -55,7 +55,7 @@ pub fn function_call(
 pub fn function_call_generic(
     area: &mut [u8],
     weight: usize,
-    unit: &UnitView<'_>,
+    unit: &UnitView<'_, '_>,
     idx: FunctionInstantiationIndex,
 ) -> PartialVMResult<usize>
     requires { Stacked area.old weight }

@@ -7,7 +7,7 @@ ghost use Rattle.std.specs.Prelude.{◌≤◌, ◌<◌, length, IfOk};
 
 use status::{StatusCode, Verdict};
 use std::io;
-use std::io::Print;
+use std::io::{Print, Read};
 
 // No call may leave it, unless it leaves the whole area untouched.
 const JUNK: u8 = 7;
@@ -17,7 +17,7 @@ fn number(b: &[u8]) -> usize
     requires { 4 ≤ length b.now }
     ensures { result < 4294967296 }
 {
-    u32::from_le_bytes([b[0], b[1], b[2], b[3]]) as usize
+    u32::from_le_bytes([b[0], b[1], b[2], b[3]]) as usize // usize has no `From` of u32
 }
 
 // The byte for the call is matched here alone: an enum of the calls would be made of it by one match, and taken apart by another.
@@ -82,4 +82,13 @@ pub fn judge_all<R: Print>(rt: &R, input: &[u8]) -> io::Result<()> {
         rest = &rest[n..];
     }
     Ok(())
+}
+
+// Judges the cases of an input of at most N bytes: an array, since no heap is used, on the stack.
+pub fn judge_input<const N: usize, I: Read, R: Print>(input: &mut I, rt: &R) -> io::Result<()>
+    requires { N ≤ 262144 }
+{
+    let mut bytes = [0u8; N];
+    let n = standard_input::read_full(input, &mut bytes)?;
+    judge_all(rt, &bytes[..n])
 }

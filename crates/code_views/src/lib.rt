@@ -18,7 +18,7 @@ pub struct Block {
 
 // Instruction i, one of the code's.
 #[tactic(auto, using(crate::specs::Lookups::instruction_laws))]
-pub fn instruction_at(unit: &UnitView<'_>, i: usize) -> Instruction
+pub fn instruction_at(unit: &UnitView<'_, '_>, i: usize) -> Instruction
     requires { i < unit.now.view.code.count }
     ensures { InstructionAt (compiled unit.now) i (opcode_byte unit.now i) result }
 {
@@ -30,7 +30,7 @@ pub fn instruction_at(unit: &UnitView<'_>, i: usize) -> Instruction
 
 // The opcode of instruction i alone.
 #[tactic(auto, using(crate::specs::Lookups::opcode_laws))]
-pub fn opcode_at(unit: &UnitView<'_>, i: usize) -> u8
+pub fn opcode_at(unit: &UnitView<'_, '_>, i: usize) -> u8
     requires { i < unit.now.view.code.count }
     ensures { OpcodeAt (compiled unit.now) i (opcode_byte unit.now i) result }
 {
@@ -39,7 +39,7 @@ pub fn opcode_at(unit: &UnitView<'_>, i: usize) -> u8
 
 // Block i, one of those listed.
 #[tactic(auto, using(crate::specs::Lookups::block_laws))]
-pub fn block_at(unit: &UnitView<'_>, i: usize) -> Block
+pub fn block_at(unit: &UnitView<'_, '_>, i: usize) -> Block
     requires { i < unit.now.view.blocks.count }
     ensures { BlockAt unit.now i result }
 {

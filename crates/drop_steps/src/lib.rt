@@ -12,7 +12,7 @@ use status::{PartialVMResult, StatusCode};
 use unit_tables::UnitView;
 
 // `Pop`.
-pub fn pop_step(area: &[u8], weight: usize, unit: &UnitView<'_>) -> PartialVMResult<usize>
+pub fn pop_step(area: &[u8], weight: usize, unit: &UnitView<'_, '_>) -> PartialVMResult<usize>
     requires { Stacked area.now weight }
     ensures { StepsTo (step.pop_step (compiled unit.now)) area.now weight area.now result }
 {
@@ -31,7 +31,7 @@ pub fn pop_step(area: &[u8], weight: usize, unit: &UnitView<'_>) -> PartialVMRes
 }
 
 // `Eq`, `Neq`.
-pub fn equality(area: &mut [u8], weight: usize, unit: &UnitView<'_>) -> PartialVMResult<usize>
+pub fn equality(area: &mut [u8], weight: usize, unit: &UnitView<'_, '_>) -> PartialVMResult<usize>
     requires { Stacked area.old weight }
     ensures { StepsTo (step.equality (compiled unit.now)) area.old weight area.new result }
 {

@@ -61,8 +61,8 @@ fn field_at(owner: Owner<'_>) -> PartialVMResult<TypeRef<'_>>
     })
 }
 
-// The rest of `borrow_field`, with the field's struct definition found: `at` and len are those of the operand's struct, start is the weight
-// of the stack below the operand.
+// The rest of `borrow_field`, with the field's struct definition found: `at` and len are those of the struct, which is no `Entry`: it stands inside
+// the operand's. start is the weight of the stack below the operand.
 fn borrow_from(
     area: &mut [u8],
     start: usize,
@@ -87,7 +87,7 @@ fn borrow_from(
 
 // A field handle's struct definition.
 #[tactic(auto, using(crate::specs::Owners::owner_laws))]
-fn field_owner<'a>(unit: &UnitView<'a>, idx: FieldHandleIndex) -> PartialVMResult<Owner<'a>>
+fn field_owner<'a>(unit: &UnitView<'a, '_>, idx: FieldHandleIndex) -> PartialVMResult<Owner<'a>>
     ensures { ResultIs OwnerIs (field_owner (compiled unit.now) idx.0) result }
 {
     let handle = handle_views::field_handle_at(unit, idx)?;
@@ -103,7 +103,7 @@ fn field_owner<'a>(unit: &UnitView<'a>, idx: FieldHandleIndex) -> PartialVMResul
 pub fn borrow_field(
     area: &mut [u8],
     weight: usize,
-    unit: &UnitView<'_>,
+    unit: &UnitView<'_, '_>,
     mutable: bool,
     idx: FieldHandleIndex,
     type_args: SignatureView,
@@ -124,12 +124,13 @@ pub fn borrow_field(
     borrow_from(area, top.start, at, len, mutable, owner, type_args)
 }
 
-// `MutBorrowFieldGeneric`, `ImmBorrowFieldGeneric`.
+// `MutBorrowFieldGeneric`, `ImmBorrowFieldGeneric`: two look-ups, and the step. Its own function beside that of global_steps, since it looks up another
+// record and goes on with another step: one function for both would take all of that as parameters.
 #[tactic(auto, using(step_views::specs::Looked::looks, step_views::specs::Looked::types), unfolding(definitions::specs::TypeSafety::borrow_field_generic))]
 pub fn borrow_field_generic(
     area: &mut [u8],
     weight: usize,
-    unit: &UnitView<'_>,
+    unit: &UnitView<'_, '_>,
     mutable: bool,
     idx: FieldInstantiationIndex,
 ) -> PartialVMResult<usize>

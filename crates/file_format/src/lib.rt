@@ -53,7 +53,7 @@ impl AbilitySet {
 
     pub const ALL: AbilitySet = AbilitySet(15);
 
-    // A byte is a set where each of its bits is an ability.
+    // `AbilitySet::from_u8`: a byte is a set where each of its bits is an ability. No `TryFrom`, since the Rust answers an Option under this name.
     pub fn from_u8(byte: u8) -> Option<AbilitySet>
         ensures { result ≡ from_u8 byte }
     {
@@ -121,8 +121,8 @@ impl AbilitySet {
         }
     }
 
-    // The abilities of a generic type over its arguments. They must be as many as its parameters. Both come as bytes, the phantoms as the unit has
-    // them: a slice of sets or of bools would be a copy.
+    // The abilities of a generic type over its arguments. They must be as many as its parameters. Both come as bytes: the phantoms stand so
+    // in the unit, where a slice of bools would be a copy, and the sets are bytes in the definitions too.
     #[tactic(auto, using(crate::proofs::Sets::unequal))]
     pub fn polymorphic_abilities(
         declared: AbilitySet,

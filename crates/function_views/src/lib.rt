@@ -28,11 +28,11 @@ impl FunctionTypes {
 
 // The types of one of the function's lists.
 #[tactic(auto, using(crate::specs::Named::named_laws))]
-pub fn function_types<'a>(unit: &UnitView<'a>, which: FunctionTypes) -> SignatureView<'a>
+pub fn function_types<'a>(unit: &UnitView<'a, '_>, which: FunctionTypes) -> SignatureView<'a>
     ensures are { ListIs (types_of which (compiled unit.now).function) result }
     ensures in_unit { result.types.bytes.now ≡ unit.now.bytes.now }
 {
-    let signature = numbers::u16_at(unit.bytes, unit.view.function + which.offset());
-    let p = unit_tables::place(unit.index, unit.view.signatures, usize::from(signature));
+    let signature = numbers::number_at(unit.bytes, unit.view.function + which.offset());
+    let p = unit_tables::place(unit.index, unit.view.signatures, signature);
     record_views::signature_at(unit.bytes, p + 1)
 }

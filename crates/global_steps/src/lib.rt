@@ -18,7 +18,7 @@ use unit_tables::UnitView;
 pub fn borrow_global(
     area: &mut [u8],
     weight: usize,
-    unit: &UnitView<'_>,
+    unit: &UnitView<'_, '_>,
     mutable: bool,
     idx: StructDefinitionIndex,
     type_args: SignatureView,
@@ -35,12 +35,12 @@ pub fn borrow_global(
     made_types::push_struct_reference(area, below, mutable, def.handle, type_args)
 }
 
-// `MutBorrowGlobalGeneric`, `ImmBorrowGlobalGeneric`.
+// `MutBorrowGlobalGeneric`, `ImmBorrowGlobalGeneric`: as `borrow_field_generic` of field_steps, with another record and another step.
 #[tactic(auto, using(step_views::specs::Looked::looks, step_views::specs::Looked::types), unfolding(definitions::specs::TypeSafety::borrow_global_generic))]
 pub fn borrow_global_generic(
     area: &mut [u8],
     weight: usize,
-    unit: &UnitView<'_>,
+    unit: &UnitView<'_, '_>,
     mutable: bool,
     idx: StructDefInstantiationIndex,
 ) -> PartialVMResult<usize>

@@ -50,9 +50,10 @@ pub struct FieldInstantiation {
     pub type_parameters: SignatureIndex,
 }
 
-// The two numbers of record i of a table. The five look-ups differ in the table, in what the numbers are, and in whether a script has it.
+// The two numbers of record i of a table. The five look-ups below differ in the table, in what the numbers are, and in whether a script has it: one
+// function for them would take all three as parameters.
 #[tactic(auto, using(crate::specs::Pairs::pair_laws))]
-fn pair_at(unit: &UnitView<'_>, table: Table, i: u16) -> PartialVMResult<(u16, u16)>
+fn pair_at(unit: &UnitView<'_, '_>, table: Table, i: u16) -> PartialVMResult<(u16, u16)>
     requires { PairsFit unit.now.bytes.now unit.now.index.now table }
     ensures { MatchResult result (PairIs unit.now.bytes.now unit.now.index.now table i) (PastIs table i) }
 {
@@ -62,7 +63,7 @@ fn pair_at(unit: &UnitView<'_>, table: Table, i: u16) -> PartialVMResult<(u16, u
 
 // The same of a table that a script lacks.
 #[tactic(auto, using(crate::specs::Pairs::module_laws))]
-fn module_pair_at(unit: &UnitView<'_>, table: Table, i: u16) -> PartialVMResult<(u16, u16)>
+fn module_pair_at(unit: &UnitView<'_, '_>, table: Table, i: u16) -> PartialVMResult<(u16, u16)>
     requires { PairsFit unit.now.bytes.now unit.now.index.now table }
     ensures { MatchResult result (ModulePairIs unit.now table i) (IsRefusedAs unit.now table i) }
 {
@@ -73,7 +74,7 @@ fn module_pair_at(unit: &UnitView<'_>, table: Table, i: u16) -> PartialVMResult<
 // A function handle.
 #[tactic(auto, using(crate::specs::Lookups::function_handle_laws))]
 pub fn function_handle_at(
-    unit: &UnitView<'_>,
+    unit: &UnitView<'_, '_>,
     idx: FunctionHandleIndex,
 ) -> PartialVMResult<FunctionHandle>
     ensures { told handle_of result ≡ defs.function_handle_at (compiled unit.now) idx.0 }
@@ -88,7 +89,7 @@ pub fn function_handle_at(
 // A function handle with its type arguments' signature.
 #[tactic(auto, using(crate::specs::Lookups::function_instantiation_laws))]
 pub fn function_instantiation_at(
-    unit: &UnitView<'_>,
+    unit: &UnitView<'_, '_>,
     idx: FunctionInstantiationIndex,
 ) -> PartialVMResult<FunctionInstantiation>
     ensures { told instantiation_of result ≡ defs.function_instantiation_at (compiled unit.now) idx.0 }
@@ -103,7 +104,7 @@ pub fn function_instantiation_at(
 // A struct definition with its type arguments' signature.
 #[tactic(auto, using(crate::specs::Lookups::struct_instantiation_laws))]
 pub fn struct_instantiation_at(
-    unit: &UnitView<'_>,
+    unit: &UnitView<'_, '_>,
     idx: StructDefInstantiationIndex,
 ) -> PartialVMResult<StructDefInstantiation>
     ensures { told struct_instantiation_of result ≡ defs.struct_instantiation_at (compiled unit.now) idx.0 }
@@ -117,7 +118,10 @@ pub fn struct_instantiation_at(
 
 // A field of a struct definition.
 #[tactic(auto, using(crate::specs::Lookups::field_handle_laws))]
-pub fn field_handle_at(unit: &UnitView<'_>, idx: FieldHandleIndex) -> PartialVMResult<FieldHandle>
+pub fn field_handle_at(
+    unit: &UnitView<'_, '_>,
+    idx: FieldHandleIndex,
+) -> PartialVMResult<FieldHandle>
     ensures { told field_handle_of result ≡ defs.field_handle_at (compiled unit.now) idx.0 }
 {
     let (owner, field) = module_pair_at(unit, unit.view.field_handles, idx.0)?;
@@ -130,7 +134,7 @@ pub fn field_handle_at(unit: &UnitView<'_>, idx: FieldHandleIndex) -> PartialVMR
 // A field handle with its type arguments' signature.
 #[tactic(auto, using(crate::specs::Lookups::field_instantiation_laws))]
 pub fn field_instantiation_at(
-    unit: &UnitView<'_>,
+    unit: &UnitView<'_, '_>,
     idx: FieldInstantiationIndex,
 ) -> PartialVMResult<FieldInstantiation>
     ensures { told field_instantiation_of result ≡ defs.field_instantiation_at (compiled unit.now) idx.0 }

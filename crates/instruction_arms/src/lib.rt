@@ -39,8 +39,8 @@ pub enum Arm {
     Vector, // VecPack to VecSwap
 }
 
-// The arm of an opcode. The compiler makes one jump of the single values here and the decision over their arms; a range becomes comparisons,
-// which the processor foresees badly, so that only the two families of the most opcodes are ranges.
+// The arm of an opcode. Single values, a line each, since the compiler makes one jump of them and of the decision over the arms. A range becomes
+// comparisons in a row, which are slower where opcodes vary: two families alone are ranges, which have one step for all of their opcodes.
 pub fn arm_of(opcode: u8) -> Arm
     requires { opcode < 71 }
     ensures { InArm result opcode }

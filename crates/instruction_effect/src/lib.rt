@@ -20,11 +20,12 @@ use file_format::{
 };
 use function_views::FunctionTypes;
 use handle_views::FunctionHandle;
+use numbers::wide64;
 use record_views::{Fields, Instruction};
 use status::PartialVMResult;
 use unit_tables::UnitView;
 
-// What an opcode pops and pushes.
+// What an opcode pops and pushes. Once it is looked up it is a pair of u64, the Rust's `(num_pops, num_pushes)`.
 #[derive(Clone, Copy)]
 pub struct Effect(pub u8, pub u8);
 
@@ -115,19 +116,21 @@ pub fn effects() -> [Effect; 71]
 
 // ── effects that are looked up ──
 
-// A call pops its parameters and pushes its returns. A count's cast loses no bit, and there is no `From` of usize for u64.
+// A call pops its parameters and pushes its returns.
 #[tactic(auto, using(crate::proofs::Looked::call_laws))]
-fn call_effect(unit: &UnitView<'_>, handle: FunctionHandle) -> PartialVMResult<(u64, u64)>
+fn call_effect(unit: &UnitView<'_, '_>, handle: FunctionHandle) -> PartialVMResult<(u64, u64)>
     ensures { told pops_and_pushes result ≡ call_effect (compiled unit.now) (handle_of handle) }
 {
     let parameters = unit_views::signature_at(unit, handle.parameters)?;
     let returns = unit_views::signature_at(unit, handle.return_)?;
-    Ok((parameters.types.count as u64, returns.types.count as u64))
+    let pops = wide64(parameters.types.count);
+    let pushes = wide64(returns.types.count);
+    Ok((pops, pushes))
 }
 
 // The effect of Call.
 #[tactic(auto, using(crate::proofs::Looked::steps))]
-fn call_effect_at(unit: &UnitView<'_>, idx: FunctionHandleIndex) -> PartialVMResult<(u64, u64)>
+fn call_effect_at(unit: &UnitView<'_, '_>, idx: FunctionHandleIndex) -> PartialVMResult<(u64, u64)>
     ensures { told pops_and_pushes result ≡ (function_handle_at (compiled unit.now) idx.0 >>? call_effect (compiled unit.now)) }
 {
     let handle = handle_views::function_handle_at(unit, idx)?;
@@ -137,7 +140,7 @@ fn call_effect_at(unit: &UnitView<'_>, idx: FunctionHandleIndex) -> PartialVMRes
 // The effect of CallGeneric. Its type arguments are not looked up.
 #[tactic(auto, using(crate::proofs::Looked::steps))]
 fn call_generic_effect_at(
-    unit: &UnitView<'_>,
+    unit: &UnitView<'_, '_>,
     idx: FunctionInstantiationIndex,
 ) -> PartialVMResult<(u64, u64)>
     ensures { told pops_and_pushes result ≡ (function_instantiation_at (compiled unit.now) idx.0 >>? λ inst. function_handle_at (compiled unit.now) inst.handle >>? call_effect (compiled unit.now)) }
@@ -148,20 +151,20 @@ fn call_generic_effect_at(
 
 // How many fields a struct has. A native struct counts none.
 #[tactic(auto, using(crate::proofs::Looked::field_laws))]
-fn field_count(unit: &UnitView<'_>, idx: StructDefinitionIndex) -> PartialVMResult<u64>
+fn field_count(unit: &UnitView<'_, '_>, idx: StructDefinitionIndex) -> PartialVMResult<u64>
     ensures { told (λ n. n) result ≡ field_count_at (compiled unit.now) idx.0 }
 {
     let def = unit_views::struct_def_at(unit, idx)?;
     match def.fields {
         Fields::Native => Ok(0),
-        Fields::Declared(list) => Ok(list.types.count as u64),
+        Fields::Declared(list) => Ok(wide64(list.types.count)),
     }
 }
 
 // The same of an instantiated struct. Its type arguments are not looked up.
 #[tactic(auto, using(crate::proofs::Looked::steps), unfolding(definitions::specs::StackUsage::field_count_of_instantiation))]
 fn field_count_of_instantiation(
-    unit: &UnitView<'_>,
+    unit: &UnitView<'_, '_>,
     idx: StructDefInstantiationIndex,
 ) -> PartialVMResult<u64>
     ensures { told (λ n. n) result ≡ field_count_of_instantiation (compiled unit.now) idx.0 }
@@ -172,7 +175,10 @@ fn field_count_of_instantiation(
 
 // What an instruction pops and pushes, one whose effect is looked up: by the opcode's number, as document 01 has it.
 #[tactic(auto, using(crate::proofs::Looked::by_opcode))]
-fn effect_by_opcode(unit: &UnitView<'_>, instruction: Instruction) -> PartialVMResult<(u64, u64)>
+fn effect_by_opcode(
+    unit: &UnitView<'_, '_>,
+    instruction: Instruction,
+) -> PartialVMResult<(u64, u64)>
     requires { looks_up instruction.opcode ≡ true }
     ensures { told pops_and_pushes result ≡ instruction_effect (compiled unit.now) (instruction_of instruction.opcode instruction.local instruction.operand instruction.count) }
 {
@@ -182,7 +188,7 @@ fn effect_by_opcode(unit: &UnitView<'_>, instruction: Instruction) -> PartialVMR
         // Ret
         1 => {
             let returns = function_views::function_types(unit, FunctionTypes::Return);
-            Ok((returns.types.count as u64, 0))
+            Ok((wide64(returns.types.count), 0))
         }
         // Call, CallGeneric
         17 => call_effect_at(unit, FunctionHandleIndex(x)),
@@ -207,7 +213,7 @@ fn effect_by_opcode(unit: &UnitView<'_>, instruction: Instruction) -> PartialVMR
 
 // The same of the i-th instruction.
 #[tactic(auto, using(crate::proofs::Looked::looked_up))]
-fn looked_up_effect(unit: &UnitView<'_>, i: usize) -> PartialVMResult<(u64, u64)>
+fn looked_up_effect(unit: &UnitView<'_, '_>, i: usize) -> PartialVMResult<(u64, u64)>
     requires i_lt_count { i < unit.now.view.code.count }
     requires i_value { looks_up (opcode_byte unit.now i) ≡ true }
     ensures { InstructionEffectAt (compiled unit.now) i result }
@@ -222,7 +228,7 @@ fn looked_up_effect(unit: &UnitView<'_>, i: usize) -> PartialVMResult<(u64, u64)
 #[tactic(auto, using(crate::proofs::Looked::by_table))]
 pub fn instruction_effect(
     pair: Effect,
-    unit: &UnitView<'_>,
+    unit: &UnitView<'_, '_>,
     i: usize,
 ) -> PartialVMResult<(u64, u64)>
     requires i_lt_count { i < unit.now.view.code.count }

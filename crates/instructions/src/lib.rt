@@ -1,7 +1,8 @@
 // `verify_instr` of type_safety.rs: one decision over the opcode's arm picks the step. An instruction that names a table takes its operand as an
 // index of that table here; the effects that are looked up (crate instruction_effect) do so too. A family's function decides once more, by the
-// opcode's number in document 01, which asks for such small functions; what families share is the form of these. An opcode stays a number: an enum
-// of 71 would be made of a byte to be taken apart. `Between` is the arm that `verify_instr` has taken.
+// opcode's number in document 01, which asks for such small functions. An opcode stays the number
+// that the unit has: an enum of 71 would be made of it by 71 arms, and taken apart once by as many, where `Arm` has the 29 that differ. `Between` says
+// which opcodes a family's function is called for.
 #![tactic(auto, using(crate::specs::Does::key_does, step_views::specs::Looked::few_bytes), unfolding(record_views::specs::Records::instruction_of, definitions::specs::TypeSafety::verify_instr))]
 
 ghost use Rattle.std.specs.Prelude.{◌≡◌, ◌+◌, ◌<◌};
@@ -53,7 +54,7 @@ fn borrow_loc_instr(
 fn call_instr(
     area: &mut [u8],
     weight: usize,
-    unit: &UnitView<'_>,
+    unit: &UnitView<'_, '_>,
     instruction: Instruction,
 ) -> PartialVMResult<usize>
     requires stacked { Stacked area.old weight }
@@ -75,7 +76,7 @@ fn call_instr(
 fn struct_instr(
     area: &mut [u8],
     weight: usize,
-    unit: &UnitView<'_>,
+    unit: &UnitView<'_, '_>,
     instruction: Instruction,
 ) -> PartialVMResult<usize>
     requires stacked { Stacked area.old weight }
@@ -97,7 +98,7 @@ fn struct_instr(
 fn field_instr(
     area: &mut [u8],
     weight: usize,
-    unit: &UnitView<'_>,
+    unit: &UnitView<'_, '_>,
     instruction: Instruction,
 ) -> PartialVMResult<usize>
     requires stacked { Stacked area.old weight }
@@ -120,7 +121,7 @@ fn field_instr(
 fn global_instr(
     area: &mut [u8],
     weight: usize,
-    unit: &UnitView<'_>,
+    unit: &UnitView<'_, '_>,
     instruction: Instruction,
 ) -> PartialVMResult<usize>
     requires stacked { Stacked area.old weight }
@@ -143,7 +144,7 @@ fn global_instr(
 fn resource_instr(
     area: &mut [u8],
     weight: usize,
-    unit: &UnitView<'_>,
+    unit: &UnitView<'_, '_>,
     instruction: Instruction,
 ) -> PartialVMResult<usize>
     requires stacked { Stacked area.old weight }
@@ -167,7 +168,7 @@ fn resource_instr(
 fn vector_instr(
     area: &mut [u8],
     weight: usize,
-    unit: &UnitView<'_>,
+    unit: &UnitView<'_, '_>,
     instruction: Instruction,
 ) -> PartialVMResult<usize>
     requires stacked { Stacked area.old weight }

@@ -89,6 +89,7 @@ fn pop_places<F: Form>(
     ensures { (p : Arguments types.entry.bytes.now types.entry.places.now) → StepsTo (pop_each status (F.made form.now) (reverse p.subst)) area.now weight area.now result }
 {
     let mut below = weight;
+    // by number, from which the invariant tells what is popped already
     for i in (0..types.places.len()).rev() {
         let ty = types.get(i).unwrap();
         below = pop_one(area, below, ty, form, status)?;
@@ -140,7 +141,7 @@ pub fn pop_each<F: Form>(
 }
 
 // `Ret`.
-pub fn ret_step(area: &[u8], weight: usize, unit: &UnitView<'_>) -> PartialVMResult<usize>
+pub fn ret_step(area: &[u8], weight: usize, unit: &UnitView<'_, '_>) -> PartialVMResult<usize>
     requires { Stacked area.now weight }
     ensures { StepsTo (step.ret_step (compiled unit.now)) area.now weight area.now result }
 {

@@ -1,6 +1,6 @@
 // The steps of type_safety.rs that push or compare the type of a local or of a constant of the unit: LdConst, CopyLoc, MoveLoc and StLoc. Each finds
 // out whether it succeeds before it writes, and pushes last.
-#![tactic(auto, using(type_stack::specs::Stepping::pops, operand_steps::specs::Operands::operands, step_views::specs::Looked::looks, locals::specs::Locals::local_rooms), unfolding(definitions::specs::TypeSafety::ld_const, definitions::specs::TypeSafety::copy_loc, definitions::specs::TypeSafety::move_loc, definitions::specs::TypeSafety::st_loc))]
+#![tactic(auto, using(type_stack::specs::Stepping::pops, operand_steps::specs::Operands::operands, step_views::specs::Looked::looks, step_views::specs::Looked::types, locals::specs::Locals::local_rooms), unfolding(definitions::specs::TypeSafety::ld_const, definitions::specs::TypeSafety::copy_loc, definitions::specs::TypeSafety::move_loc, definitions::specs::TypeSafety::st_loc))]
 
 ghost use Rattle.definitions.specs.TypeSafety as step;
 ghost use Rattle.type_stack.specs.Held.{Stacked};
@@ -17,14 +17,14 @@ use unit_tables::UnitView;
 pub fn ld_const(
     area: &mut [u8],
     weight: usize,
-    unit: &UnitView<'_>,
+    unit: &UnitView<'_, '_>,
     idx: ConstantPoolIndex,
 ) -> PartialVMResult<usize>
     requires { Stacked area.old weight }
     ensures { StepsTo (step.ld_const (compiled unit.now) idx.0) area.old weight area.new result }
 {
     let constant = unit_views::constant_at(unit, idx)?;
-    copied_pushes::push_part(area, weight, &constant.bytes[constant.at..constant.end()])
+    copied_pushes::push_part(area, weight, constant.encoded())
 }
 
 // `CopyLoc`.

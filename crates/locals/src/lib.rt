@@ -19,13 +19,13 @@ use unit_tables::UnitView;
 // `Locals`: the unit, and for the parameters and for the other locals the places of their types and the end of the last one.
 #[derive(Clone, Copy)]
 pub struct Locals<'a> {
-    pub unit: UnitView<'a>,
+    pub unit: UnitView<'a, 'a>,
     pub parameters: &'a [u16],
     pub locals: &'a [u16],
     pub ghost places: { LocalPlaces unit.bytes.now (compiled unit).function parameters.now locals.now } by { LocalPlaces-prop (compiled unit).function },
 }
 
-// A local's type: where it stands in the unit and where it ends.
+// A local's type: where it stands in the unit and where it ends. Not a `TypeRef`, whose end would be looked for again where the type is pushed.
 #[derive(Clone, Copy)]
 pub struct LocalType {
     pub at: usize,
@@ -71,9 +71,9 @@ impl Locals<'_> {
 }
 
 // The places of the types of one of the function's lists and the end of the last one, to the front of out. Answers how many entries there
-// are. The end of a list of no types is anything.
+// are. The end of a list of no types has any value.
 #[tactic(auto, using(crate::specs::Locals::listed_laws))]
-pub fn places(unit: &UnitView<'_>, which: FunctionTypes, out: &mut [u16]) -> usize
+pub fn places(unit: &UnitView<'_, '_>, which: FunctionTypes, out: &mut [u16]) -> usize
     requires { 256 ≤ length out.old }
     ensures { PlacesIn unit.now.bytes.now (types_of which (compiled unit.now).function) out.new result }
 {

@@ -1,6 +1,6 @@
 // Types that an instruction makes, and that stand nowhere yet: a struct with its type arguments, a reference to one, and a reference to a
 // field's type with its parameters replaced. Each is measured first, and then written into the free end of the area. A struct's handle and its
-// arguments are two parameters, as those of the Rust's `materialize_type`: they come from two look-ups.
+// arguments are two parameters, as those of the Rust's `materialize_type`.
 #![tactic(auto)]
 
 ghost use Rattle.std.specs.Prelude.{◌≤◌, length};
@@ -14,7 +14,8 @@ use signature_token::{SignatureView, TypeRef};
 use status::{PartialVMResult, StatusCode};
 use type_places::TypePlaces;
 
-// Whether the type of len bytes at `at` of the area is the struct with these type arguments.
+// Whether the type of len bytes at `at` of the area is the struct with these type arguments. By place and length, and no `Entry`: it may stand inside an
+// operand, as that of a field's borrow does.
 pub fn struct_is(
     area: &[u8],
     at: usize,
@@ -49,8 +50,8 @@ pub fn push_struct(
     Ok(type_pushes::seal(area, weight, len))
 }
 
-// Pushes a reference to the struct with these type arguments: as `push_struct`, behind a command. One function for both, or with that of a field's
-// type, would have to ask at three places which of them it is.
+// Pushes a reference to the struct with these type arguments: as `push_struct`, behind a command. One function for both would take the bytes in front as
+// a slice, empty for a struct, and copy it, where a command is one store and a struct has none.
 #[tactic(auto, using(materialize_type::proofs::Materialize::made_short))]
 pub fn push_struct_reference(
     area: &mut [u8],

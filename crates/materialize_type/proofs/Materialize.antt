@@ -12,7 +12,7 @@ use Rattle.signature_token.specs.Same.{Spans, same_yes, same_no}
 use Rattle.substitution.specs.Bytes.{over, Tells, start_told, at_append}
 use Rattle.materialize_type.specs.declared.MaterializedType.{MaterializedType}
 use Rattle.materialize_type.specs.Materialized.{type_of}
-use Rattle.materialize_type.specs.Materialize.{command_bytes, command_length, IsCommand, IsLength, materialized}
+use Rattle.materialize_type.specs.Materialize.{command_bytes, command_length, IsCommand, IsLength, ArgumentList, materialized, MaterializedSize}
 
 -- ── its bytes ──
 
@@ -41,7 +41,7 @@ unfolding command_length
 command_short zero = omega arith
 command_short (suc n) = omega arith
 
-length_short : {n k : ℕ} → IsLength n k → k ≤ 4
+pub length_short : {n k : ℕ} → IsLength n k → k ≤ 4
 length_short {n} e = omega (arith, e.is, command_short n)
 
 command_four : (h n : ℕ) → length (command_bytes h n) ≡ 4
@@ -71,6 +71,19 @@ size_is h ts {n} c f is =
       ap command_length c,
       ap length is,
     )
+
+-- and where its arguments stand
+pub size_between : {first n end k : ℕ} → IsLength n k → MaterializedSize first n end (k + (end - first))
+size_between {first} {n} {end} {k} f = record {
+  is = λ h args l. ap (λ (x : ℕ). k + x) (sym (ends_apart l)) ∙ size_is h l.types.types l.types.counted f refl;
+}
+  where
+    ends_apart : {args : List ℕ} (l : ArgumentList args first n end) → length (encode_all l.types.types) ≡ end - first
+    ends_apart l = omega (arith, l.ends)
+
+-- the arguments, as the size of a struct takes them
+abbrev pub arguments_of : (m : MaterializedType) → ArgumentList m.type_args.types.bytes.now m.type_args.types.at m.type_args.types.count m.end
+arguments_of m = record { types = m.type_args.types.stand; ends = m.ends m.type_args.types.stand; few = m.type_args.few }
 
 -- it has little more than its arguments
 pub made_short : (m : MaterializedType) → length (encode (type_of m)) ≤ 4 + length m.type_args.types.bytes.now

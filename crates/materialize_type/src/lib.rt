@@ -2,17 +2,18 @@
 // with a type that stands elsewhere.
 #![tactic(auto)]
 
-ghost use Rattle.std.specs.Prelude.{◌≡◌, ◌≤◌, ◌<◌, length};
+ghost use Rattle.std.specs.Prelude.{◌≡◌, ◌+◌, ◌-◌, ◌≤◌, ◌<◌, length};
 ghost use Rattle.definitions.specs.Places.{TypesAt, EndOfTypes};
 ghost use Rattle.definitions.specs.SignatureToken.{encode, encode_all, same};
 ghost use Rattle.signature_token.specs.Same.{Spans};
 ghost use Rattle.substitution.specs.Bytes.{over};
-ghost use Rattle.materialize_type.specs.Materialize.{IsCommand, IsLength, materialized, EndOfTypes-prop};
+ghost use Rattle.materialize_type.specs.Materialize.{IsCommand, IsLength, MaterializedSize, EndOfTypes-prop};
 
 use file_format::StructHandleIndex;
 use signature_token::SignatureView;
 
-// The command of a struct with n arguments and its operands. Where there are none the last byte does not count. That n fits a byte is proved.
+// The command of a struct with n arguments, document 01's 9 or, without any, 8, and its operands. Where there are none the last byte does not count: an array has one length, and how many
+// count is `command_length`. That n fits a byte is proved.
 #[tactic(auto, using(crate::proofs::Materialize::command_none, crate::proofs::Materialize::command_some))]
 fn struct_command(h: StructHandleIndex, n: usize) -> [u8; 4]
     requires { n < 256 }
@@ -30,16 +31,26 @@ fn command_length(n: usize) -> usize
     if n == 0 { 3 } else { 4 }
 }
 
+// The size of a struct with the n type arguments that stand from `first` to `end`. Three numbers, and no `MaterializedType`: it may be asked where it is
+// not known that types stand there.
+pub fn materialized_size(first: usize, n: usize, end: usize) -> usize
+    requires { (first ≤ end) × (end - first + 4 < 18446744073709551616) }
+    ensures { MaterializedSize first n end result }
+{
+    command_length(n) + (end - first)
+}
+
 // A struct with its type arguments. Where they end is kept, since it is asked more than once and found by a walk.
 #[derive(Clone, Copy)]
 pub struct MaterializedType<'a> {
     pub struct_handle: StructHandleIndex,
     pub type_args: SignatureView<'a>,
-    end: usize,
-    ghost ends: { EndOfTypes type_args.types.bytes.now type_args.types.at type_args.types.count end } by { EndOfTypes-prop type_args.types.bytes.now type_args.types.at type_args.types.count end },
+    pub end: usize,
+    pub ghost ends: { EndOfTypes type_args.types.bytes.now type_args.types.at type_args.types.count end } by { EndOfTypes-prop type_args.types.bytes.now type_args.types.at type_args.types.count end },
 }
 
 impl<'a> MaterializedType<'a> {
+    ghost use Rattle.materialize_type.specs.Materialize.{materialized};
     ghost use Rattle.materialize_type.specs.Materialized.{type_of};
 
     // `materialize_type`.
@@ -68,11 +79,14 @@ impl<'a> MaterializedType<'a> {
     }
 
     // How many bytes it has.
-    #[tactic(auto, using(crate::proofs::Materialize::size_is))]
     pub fn size(self) -> usize
         ensures { result ≡ length (encode (type_of self.entry)) }
     {
-        command_length(self.type_args.types.count) + self.arguments().len()
+        materialized_size(
+            self.type_args.types.at,
+            self.type_args.types.count,
+            self.end,
+        )
     }
 
     // Writes it to the front of out.
@@ -88,7 +102,8 @@ impl<'a> MaterializedType<'a> {
         out[k..k + args.len()].copy_from_slice(args);
     }
 
-    // `==`: whether it is the type of len bytes at x of s. Lengths first, since most that differ differ there.
+    // `==`: whether it is the type of len bytes at x of s, by place and length as `struct_is` of made_types has them. Lengths first, since most that
+    // differ differ there.
     #[tactic(auto, using(crate::proofs::Materialize::head))]
     pub fn is_at(self, s: &[u8], x: usize, len: usize) -> bool
         requires { Spans s.now x len }

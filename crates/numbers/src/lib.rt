@@ -1,4 +1,4 @@
-// Numbers as a unit's bytes hold them, the low byte first.
+// Numbers as a unit's bytes hold them, the low byte first, and a count as a u64.
 #![tactic(auto)]
 
 ghost use Rattle.std.specs.Prelude.{◌≡◌, ◌+◌, ◌*◌, ◌<◌, length, get_or};
@@ -17,4 +17,11 @@ pub fn number_at(s: &[u8], at: usize) -> usize
     ensures { result ≡ get_or s.now at 0 + 256 * get_or s.now (at + 1) 0 }
 {
     usize::from(u16_at(s, at))
+}
+
+// A count as a number of values on the stack, none of its bits lost: by a cast, since u64 has no `From` of usize.
+pub fn wide64(count: usize) -> u64
+    ensures { result ≡ count }
+{
+    count as u64
 }

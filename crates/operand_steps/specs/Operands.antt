@@ -22,7 +22,7 @@ use Rattle.std.specs.Prelude.{Ok}
 use Rattle.type_stack.specs.declared.Entry.{Entry}
 use Rattle.type_stack.specs.Answers.{Stepped}
 use Rattle.type_stack.specs.Held.{Stacked, Here, Part, part}
-use Rattle.type_stack.specs.Tops.{TopOf, TopTwoOf, Topped, topped, topped_two}
+use Rattle.type_stack.specs.Tops.{TopOf, TopTwoOf, Topped, topped, topped_two, top_under}
 use Rattle.type_stack.specs.Stepping.{StepsTo, push_stands}
 use Rattle.type_stack.specs.Pushing.{PushesTo}
 
@@ -58,9 +58,6 @@ module _ {a : List ℕ} {w : ℕ} {x : Entry} (k : Stacked a w) (p : TopOf a w (
 
   pub top_span : Spans a x.start x.len
   top_span = span (topped k p).here
-
-  pub top_under : Stacked a x.start
-  top_under = (topped k p).under
 
   pub top_room : (x.start < x.start + x.len) × (x.start + x.len + 2 ≤ length a)
   top_room = entry_room k (topped k p)

@@ -14,7 +14,7 @@ use signature_token::{BOOL, U8};
 use status::{PartialVMResult, StatusCode};
 use type_stack::Entry;
 
-// Whether two operands are integers of one type.
+// Whether two operands are integers of one type. That types stand there is asked, as in operand_steps, since the next step may write the area.
 fn same_integers(area: &[u8], operand1: Entry, operand2: Entry) -> bool
     requires spans { Spans area.now operand1.start operand1.len }
     requires stands { TypeAt area.now operand2.start }

@@ -24,8 +24,8 @@ pub struct ReadError {
     pub at: usize,
 }
 
-// What follows a type's command: nothing, a type, a u16, or a u16 with a list of types; or the byte is no command. Not `Shape` of signature_token,
-// which has no byte that opens nothing, and tells a vector from references.
+// What follows a type's command: nothing, a type, a u16, or a u16 with a list of types; or the byte is no command, which one match tells with the
+// others, so that it is a variant and no Option. Not `Shape` of signature_token, which has no byte that opens nothing, and tells a vector from references.
 #[derive(Clone, Copy)]
 enum TypeShape {
     Leaf,
@@ -97,7 +97,7 @@ fn type_shape(command: u8) -> TypeShape
 }
 
 // Where the type at `at` ends, if it is plain or one command stands around a plain one; None where that is not found out here: the unit may
-// end inside such a type, or too few levels be allowed. Which of these types it is decides nothing but what is added. `plain_end` of TypeRef tests
+// end inside such a type, or too few levels be allowed. Which of these types it is changes only what is added. `plain_end` of TypeRef tests
 // neither, since its type stands there.
 #[tactic(auto, using(crate::proofs::Types::plain_read))]
 fn plain_end(s: &[u8], at: usize, levels: u8) -> Option<usize>
@@ -126,7 +126,7 @@ fn read_type(s: &[u8], at: usize, levels: u8) -> Result<usize, ReadError>
     read_any_type(s, at, levels)
 }
 
-// The same, whatever the type is. Vectors and references stand in a row before what they are of: one turn of the loop for each.
+// The same, whatever the type is. One turn of the loop for each vector or reference around it.
 #[tactic(auto, using(crate::proofs::Types::walking))]
 #[cycle(read_any_type_read_type_read_types_within)]
 fn read_any_type(s: &[u8], at: usize, levels: u8) -> Result<usize, ReadError>

@@ -24,6 +24,16 @@ pub record TypesIn (r : SignatureView) : Type 0 where
   pub types : Signature
   pub are : ListIs types r
 
+-- the types ts stand one after the other at the place r.0, and there are r.1 of them
+pub record ListStands (s : List ℕ) (ts : Signature) (r : ℕ × ℕ) : Type 0 where
+  pub counted : r.1 ≡ length ts
+  pub small : r.1 < 256
+  pub stands : At s r.0 (encode_all (arguments ts))
+
+-- whatever list was read at `at`
+abbrev pub ListAt : List ℕ → ℕ → ℕ × ℕ → Type 0
+ListAt s at r = (head : defs.Head) (ts : Signature) (e : ℕ) → reader.types (commands_of head) s at ≡ read ts e → ListStands s ts r
+
 -- some types were read at `at`, behind their count
 pub record ListHere (s : List ℕ) (at : ℕ) : Type 0 where
   pub head : defs.Head

@@ -6,12 +6,12 @@ use Rattle.std.proofs.Common.{ap, ap₂, ◌∙◌, arith, leb→le}
 use Rattle.std.proofs.Math.Decide.{dec_le}
 use Rattle.std.proofs.Math.ListN.{length, get_or-eq_default}
 use Rattle.status.specs.declared.StatusCode.TheVariants.{VALUE}
-use Rattle.definitions.specs.SignatureToken.{Signature, arguments, count, encode_all}
+use Rattle.definitions.specs.SignatureToken.{Signature, arguments, count}
 use Rattle.definitions.specs.Bytecode.{Bytecode}
 use Rattle.definitions.specs.CompiledUnit as defs
 use Rattle.definitions.specs.Commands.{InstructionForm, plain, unkept, local, counted, commands_of, instruction_forms, instruction_form}
 use Rattle.definitions.specs.Reading.{read, next, ◌>>=◌, ◌>>◌, give, here, need, byte, u16, number, skip, many}
-use Rattle.definitions.specs.Places.{At, TypesAt}
+use Rattle.definitions.specs.Places.{TypesAt}
 use Rattle.theorems.specs.Bytes.{list_of, arguments_list_of}
 use Rattle.definitions.specs.Reader.{type, types, byte_up_to, field_information, struct_definition, operands, instruction}
 use Rattle.record_reader.specs.ReadTo.{read_to}
@@ -24,7 +24,7 @@ use Rattle.signature_token.specs.declared.SignatureView.{SignatureView}
 use Rattle.record_views.specs.declared.Fields.{Fields}
 use Rattle.record_views.specs.declared.StructDef.{StructDef}
 use Rattle.record_views.specs.declared.Instruction.{Instruction}
-use Rattle.record_views.specs.Records.{ListIs, TypesIn, ListHere, DefIs, DefAt, applied, instruction_of, InstructionHere, InstructionIs}
+use Rattle.record_views.specs.Records.{ListIs, ListStands, ListAt, TypesIn, ListHere, DefIs, DefAt, applied, instruction_of, InstructionHere, InstructionIs}
 
 -- every element is a byte
 abbrev pub Bytes : List ℕ → Type 0
@@ -51,27 +51,35 @@ types_in r =
       are = record { counted = sym k.counted ∙ ap count (sym e) ∙ count_arguments (list_of k.types); stands = rw e k.stands };
     }
 
+-- a list that was read at `at`: its count stands there, and its types behind it
+pub list_read : {s : List ℕ} (bytes : Bytes s) (at : ℕ) {r : ℕ × ℕ} → r.0 ≡ at + 1 → r.1 ≡ get_or s at 0 → ListAt s at r
+unfolding types type
+list_read {s} bytes at {r} p q head ts e h =
+    let a = parts byte (λ n. many n (type (commands_of head))) s at h in
+    let b = byte_read s at a.first in
+    let t = types_sound head s bytes 32 a.value a.middle e ts a.second in
+    let n : length ts ≡ a.value = sym (count_arguments ts) ∙ t.number in
+    let x : a.middle ≡ r.0 = b.next_at ∙ sym p in
+    record { counted = q ∙ sym b.is ∙ sym n; small = omega (arith, bytes at); stands = rw x at t.stand }
+
 module _ {s : List ℕ} {at : ℕ} (p : ListHere s at) where
   -- the count of a list that was read stands at `at`
   pub list_within : at < length s
   unfolding types
   list_within = (byte_read s at (parts byte (λ n. many n (type (commands_of p.head))) s at p.reads).first).within
 
-  module _ (bytes : Bytes s) where
-    -- and its types behind it
-    list_read : (length p.types ≡ get_or s at 0) × At s (at + 1) (encode_all (arguments p.types))
-    unfolding types type
-    list_read =
-        let a = parts byte (λ n. many n (type (commands_of p.head))) s at p.reads in
-        let b = byte_read s at a.first in
-        let t = types_sound p.head s bytes 32 a.value a.middle p.ends p.types a.second in
-        (sym (count_arguments p.types) ∙ t.number ∙ b.is, rw b.next_at at t.stand)
+  module _ {r : ℕ × ℕ} (l : ListAt s at r) where
+    told_here : ListStands s p.types r
+    told_here = l p.head p.types p.ends p.reads
 
-    pub list_stands : {n : ℕ} → n ≡ get_or s at 0 → TypesAt s (at + 1) n
-    list_stands e = record { types = arguments p.types; counted = count_arguments p.types ∙ list_read.0 ∙ sym e; stands = list_read.1 }
+    pub list_few : r.1 < 256
+    list_few = told_here.small
 
-    pub list_here : {r : SignatureView} → r.types.bytes.now ≡ s → r.types.at ≡ at + 1 → r.types.count ≡ get_or s at 0 → ListIs p.types r
-    list_here e f g = record { counted = g ∙ sym list_read.0; stands = rw (e, f) list_read.1 }
+    pub list_stands : TypesAt s r.0 r.1
+    list_stands = record { types = arguments p.types; counted = count_arguments p.types ∙ sym told_here.counted; stands = told_here.stands }
+
+    pub list_here : {v : SignatureView} → v.types.bytes.now ≡ s → v.types.at ≡ r.0 → v.types.count ≡ r.1 → ListIs p.types v
+    list_here e f g = record { counted = g ∙ told_here.counted; stands = rw (e, f) told_here.stands }
 
 -- ── struct definitions ──
 

@@ -3,7 +3,7 @@
 
 ghost use Rattle.std.specs.Prelude.{◌≡◌, ◌+◌, ◌<◌, length};
 ghost use Rattle.record_reader.specs.Apart.{number_of};
-ghost use Rattle.record_views.specs.Records.{ListHere, ListIs, DefAt, InstructionHere, InstructionIs, DefIs, FieldsIn};
+ghost use Rattle.record_views.specs.Records.{ListAt, ListHere, ListIs, DefAt, InstructionHere, InstructionIs, DefIs, FieldsIn};
 
 use file_format::StructHandleIndex;
 use numbers::u16_at;
@@ -22,7 +22,8 @@ pub struct StructDef<'a> {
     pub fields: Fields<'a>,
 }
 
-// An instruction: its opcode, the local or the table index after it, and how many elements. What the opcode does not take is anything.
+// An instruction: its opcode, the local or the table index after it, and how many elements. What the opcode does not take has any value. No enum of
+// operands, which would be a decision over the opcode before the one that picks the step.
 #[derive(Clone, Copy)]
 pub struct Instruction {
     pub opcode: u8,
@@ -31,7 +32,7 @@ pub struct Instruction {
     pub count: u64,
 }
 
-// The u64 at `at`: eight indices, since a slice of the bytes would have to be made an array again.
+// The u64 at `at`: eight indices, since a slice would be made an array by a test of its length.
 fn u64_at(s: &[u8], at: usize) -> u64
     requires { at + 7 < length s.now }
     ensures { result ≡ number_of 8 s.now at }
@@ -48,17 +49,27 @@ fn u64_at(s: &[u8], at: usize) -> u64
     ])
 }
 
-// The list of types whose count stands at `at`: a signature's, or a declared struct's fields.
+// Where the first type stands of a list whose count stands at `at`, and how many there are. Two numbers, and no `TypeList`: it may be asked where it is
+// not known that a list was read.
+pub fn type_list(s: &[u8], at: usize) -> (usize, usize)
+    requires { at < length s.now }
+    ensures { ListAt s.now at result }
+{
+    (at + 1, usize::from(s[at]))
+}
+
+// The list of types that was read at `at`: a signature's, or a declared struct's fields.
 pub fn signature_at(s: &[u8], at: usize) -> SignatureView<'_>
     requires { ListHere s.now at }
     ensures are { (p : ListHere s.now at) → ListIs p.types result }
     ensures in_bytes { result.types.bytes.now ≡ s.now }
 {
+    let (first, count) = type_list(s, at);
     SignatureView {
         types: TypeList {
             bytes: s,
-            at: at + 1,
-            count: usize::from(s[at]),
+            at: first,
+            count,
         },
     }
 }

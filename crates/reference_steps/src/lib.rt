@@ -51,7 +51,7 @@ pub fn borrow_loc(
 }
 
 // `ReadRef`.
-pub fn read_ref(area: &mut [u8], weight: usize, unit: &UnitView<'_>) -> PartialVMResult<usize>
+pub fn read_ref(area: &mut [u8], weight: usize, unit: &UnitView<'_, '_>) -> PartialVMResult<usize>
     requires { Stacked area.old weight }
     ensures { StepsTo (step.read_ref (compiled unit.now)) area.old weight area.new result }
 {
@@ -73,7 +73,7 @@ pub fn read_ref(area: &mut [u8], weight: usize, unit: &UnitView<'_>) -> PartialV
 }
 
 // `WriteRef`.
-pub fn write_ref(area: &[u8], weight: usize, unit: &UnitView<'_>) -> PartialVMResult<usize>
+pub fn write_ref(area: &[u8], weight: usize, unit: &UnitView<'_, '_>) -> PartialVMResult<usize>
     requires { Stacked area.now weight }
     ensures { StepsTo (step.write_ref (compiled unit.now)) area.now weight area.now result }
 {

@@ -1,4 +1,5 @@
 // The steps of type_safety.rs that ask for a struct in global storage or change it: exists, move_from and move_to. Each tests key before it pops.
+// `looked` is what the instruction's look-up answered, a refusal too, as in struct_steps.
 #![tactic(auto, using(operand_steps::specs::Operands::operands, operand_steps::specs::Leaves::addresses))]
 
 ghost use Rattle.std.specs.Prelude.{IfOk};
@@ -19,7 +20,7 @@ use type_tests::Referent;
 use unit_tables::UnitView;
 
 // Asks the struct that was found for key.
-fn needs_key(unit: &UnitView<'_>, found: StructWith, status: StatusCode) -> PartialVMResult<()>
+fn needs_key(unit: &UnitView<'_, '_>, found: StructWith, status: StatusCode) -> PartialVMResult<()>
     ensures { (q : StructIn found.entry) → AbilityIs (compiled unit.now) (step.struct_type q.struct) Key status result }
 {
     let h = found.def.handle;
@@ -30,7 +31,7 @@ fn needs_key(unit: &UnitView<'_>, found: StructWith, status: StatusCode) -> Part
 pub fn exists(
     area: &mut [u8],
     weight: usize,
-    unit: &UnitView<'_>,
+    unit: &UnitView<'_, '_>,
     looked: PartialVMResult<StructWith<'_>>,
 ) -> PartialVMResult<usize>
     requires stacked { Stacked area.old weight }
@@ -47,7 +48,7 @@ pub fn exists(
 pub fn move_from(
     area: &mut [u8],
     weight: usize,
-    unit: &UnitView<'_>,
+    unit: &UnitView<'_, '_>,
     looked: PartialVMResult<StructWith<'_>>,
 ) -> PartialVMResult<usize>
     requires stacked { Stacked area.old weight }
@@ -78,7 +79,7 @@ fn is_signer_reference(ty: TypeRef) -> bool
 pub fn move_to(
     area: &[u8],
     weight: usize,
-    unit: &UnitView<'_>,
+    unit: &UnitView<'_, '_>,
     looked: PartialVMResult<StructWith<'_>>,
 ) -> PartialVMResult<usize>
     requires stacked { Stacked area.now weight }

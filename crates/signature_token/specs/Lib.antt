@@ -2,6 +2,7 @@
 pub mod Token
 pub mod TokenLaws
 pub mod Lists
+pub mod Encoded
 pub mod Ends
 pub mod Plain
 pub mod Passing

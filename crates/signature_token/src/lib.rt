@@ -1,16 +1,17 @@
-// A type taken apart at its first command, and where types end. `token` is the one place in the passes that takes a type apart; where the
+// A type taken apart at its first command, its bytes, and where types end. `token` is the one place in the passes that takes a type apart; where the
 // commands alone tell its end, nothing is taken apart, and `type_commands` counts its bytes. The reader, which meets bytes that open no type,
 // has its own.
 #![tactic(auto)]
 
-ghost use Rattle.std.specs.Prelude.{◌≡◌, ◌<◌};
+ghost use Rattle.std.specs.Prelude.{◌≡◌, ◌≤◌, ◌<◌, length};
 ghost use Rattle.definitions.specs.Places.{TypeAt, TypesAt, EndOfType, EndOfTypes};
+ghost use Rattle.signature_token.specs.Encoded.{Encoded};
 ghost use Rattle.signature_token.specs.Token.{shape_of, TokenAt, HasFew};
 ghost use Rattle.signature_token.specs.Plain.{PlainEnd};
 ghost use Rattle.signature_token.specs.Standing.{TypeAt-prop, TypesAt-prop};
 
 use file_format::StructHandleIndex;
-use numbers::u16_at;
+use numbers::{number_at, u16_at};
 use type_commands::{plain_width, wraps};
 
 // Commands of types, as document 01's table of them has them: those that steps name.
@@ -49,7 +50,8 @@ pub enum Wrapper {
 }
 
 // A type taken apart: its command where it is a leaf; what is around it and where the inner type stands; a handle; a handle, how many
-// arguments and where the first stands; a parameter's number. A leaf stays a command, since that is what is compared and pushed.
+// arguments and where the first stands; a parameter's number. A leaf stays a command, since that is what is compared and pushed; what is inside stays a
+// place, since whoever asked has the bytes, and an answer without them is shorter.
 #[derive(Clone, Copy)]
 pub enum Token {
     Leaf(u8),
@@ -88,7 +90,9 @@ fn shape_of(command: u8) -> Shape
     Shape::Leaf
 }
 
-// A type that stands at a place of some bytes: a unit's, or the area's. Where it ends is not kept, since bytes begin with one type at most.
+// A type that stands at a place of some bytes: a unit's, or the area's. By place, and not the slice from there on, since the contracts speak of places.
+// Its end is not kept, since finding it is a walk and many never ask. It is written as a literal where it is needed, of an operand too, since a proof
+// computes with the parts of a literal, where of a function's answer it knows equations.
 #[derive(Clone, Copy)]
 pub struct TypeRef<'a> {
     pub bytes: &'a [u8],
@@ -105,15 +109,16 @@ pub struct TypeList<'a> {
     pub ghost stand: { TypesAt bytes.now at count } by { TypesAt-prop bytes.now at count },
 }
 
-// Types that a unit lists, a `Signature`'s or a declared struct's fields: their count is a byte. That their bytes are few, as a unit's are, is asked
-// by those who keep places of them in 16 bits or push them; the others take longer ones too.
+// Types with a count that is a byte: a `Signature`'s, a declared struct's fields, or a struct's type arguments. That they stand in at most 65,535 bytes, as
+// those of a unit do, is asked by those who keep their places in 16 bits or push them. `struct_is`, `instantiates_each` and `push_each` take longer
+// ones too, so that a field for it would ask more of their callers.
 #[derive(Clone, Copy)]
 pub struct SignatureView<'a> {
     pub types: TypeList<'a>,
     pub ghost few: { types.count < 256 },
 }
 
-impl TypeRef<'_> {
+impl<'a> TypeRef<'a> {
     // The type, taken apart.
     #[tactic(auto, using(crate::specs::Kept::token_laws))]
     pub fn token(self) -> Token
@@ -134,11 +139,11 @@ impl TypeRef<'_> {
             ),
             Shape::Reference => Token::Wrapped(Wrapper::Reference, at + 1),
             Shape::MutableReference => Token::Wrapped(Wrapper::MutableReference, at + 1),
-            Shape::TypeParameter => Token::TypeParameter(usize::from(u16_at(s, at + 1))),
+            Shape::TypeParameter => Token::TypeParameter(number_at(s, at + 1)),
         }
     }
 
-    // Its end, if it is plain or one command stands around a plain one. Which of these types it is decides nothing but what is added.
+    // Its end, if it is plain or one command stands around a plain one. Which of these types it is changes only what is added.
     #[tactic(auto, using(crate::specs::Kept::plain_laws))]
     fn plain_end(self) -> Option<usize>
         ensures { PlainEnd self.entry.bytes.now self.entry.at result }
@@ -173,11 +178,21 @@ impl TypeRef<'_> {
         }
         .end()
     }
+
+    // Its bytes.
+    #[tactic(auto, using(crate::specs::Encoded::type_bytes))]
+    pub fn encoded(self) -> &'a [u8]
+        ensures is { Encoded self.entry.bytes.now self.entry.at result.now }
+        ensures short { length result.now ≤ length self.entry.bytes.now }
+    {
+        &self.bytes[self.at..self.end()]
+    }
 }
 
 impl TypeList<'_> {
     // The end of the last. A type inside another is passed as one more of those that are left, so that nothing calls itself; their number
-    // rises and falls, which no `for` counts.
+    // rises and falls, which no `for` counts. substitution and substitution_comparison walk so too, each in its own loop: an iterator for the three
+    // would need a law of what the commands that are left give, and that is another thing in each.
     pub fn end(self) -> usize
         ensures { EndOfTypes self.entry.bytes.now self.entry.at self.entry.count result }
     {

@@ -17,19 +17,16 @@ use unit_tables::UnitView;
 fn height_after(height: u64, pops: u64, pushes: u64) -> PartialVMResult<u64>
     ensures { told (λ h. h) result ≡ height_after height (record { pops = pops; pushes = pushes }) }
 {
-    if height < pops {
-        return Err(StatusCode::NEGATIVE_STACK_SIZE_WITHIN_BLOCK);
-    }
-    let rest = height - pops;
-    if u64::MAX - rest < pushes {
-        return Err(StatusCode::HEIGHT);
-    }
-    Ok(rest + pushes)
+    let rest = height
+        .checked_sub(pops)
+        .ok_or(StatusCode::NEGATIVE_STACK_SIZE_WITHIN_BLOCK)?;
+    rest.checked_add(pushes).ok_or(StatusCode::HEIGHT)
 }
 
-// A block, from its first to its last instruction: each block starts at height 0, and ends there.
+// A block, from its first to its last instruction: each block starts at height 0, and ends there. Not `first..=last`, which is left at two places: what
+// holds at its end would be proved for each.
 #[tactic(auto, using(crate::proofs::Blocks::block_even))]
-fn verify_block(unit: &UnitView<'_>, block: Block) -> PartialVMResult<()>
+fn verify_block(unit: &UnitView<'_, '_>, block: Block) -> PartialVMResult<()>
     requires { (block.first ≤ block.last) × (block.last < unit.now.view.code.count) }
     ensures { told (λ u. u) result ≡ verify_block (compiled unit.now) (block_of block) }
 {
@@ -49,7 +46,7 @@ fn verify_block(unit: &UnitView<'_>, block: Block) -> PartialVMResult<()>
 
 // `StackUsageVerifier::verify`: the blocks as listed; the first refusal ends it, with its block's start.
 #[tactic(auto, using(crate::proofs::Blocks::in_blocks))]
-pub fn verify(unit: &UnitView<'_>) -> Verdict
+pub fn verify(unit: &UnitView<'_, '_>) -> Verdict
     ensures { result ≡ stack_usage (compiled unit.now) }
 {
     for block_id in 0..usize::from(unit.view.blocks.count) {

@@ -78,7 +78,7 @@ pub enum Verdict {
 }
 
 impl StatusCode {
-    // Document 01's number of a refusal.
+    // Document 01's number of a refusal. Its own name and no `From`, since a verdict has a number too, among others.
     pub fn number(self) -> u8
         ensures { result ≡ status_number self }
     {

@@ -30,7 +30,7 @@ pub struct StructWith<'a> {
 // A struct that is not generic: it has no type arguments.
 #[tactic(auto, using(crate::specs::Structs::plain_laws))]
 pub fn plain_struct<'a>(
-    unit: &UnitView<'a>,
+    unit: &UnitView<'a, '_>,
     idx: StructDefinitionIndex,
 ) -> PartialVMResult<StructWith<'a>>
     ensures value { ResultIs WithIs (defs.plain_struct (compiled unit.now) idx.0) result }
@@ -44,7 +44,7 @@ pub fn plain_struct<'a>(
 // A generic struct: its instantiation, its definition, and then its type arguments are looked up.
 #[tactic(auto, using(crate::specs::Structs::generic_laws))]
 pub fn generic_struct<'a>(
-    unit: &UnitView<'a>,
+    unit: &UnitView<'a, '_>,
     idx: StructDefInstantiationIndex,
 ) -> PartialVMResult<StructWith<'a>>
     ensures value { ResultIs WithIs (defs.generic_struct (compiled unit.now) idx.0) result }
@@ -71,7 +71,7 @@ fn check_set(set: AbilitySet, ability: Ability, status: StatusCode) -> PartialVM
 #[tactic(auto, using(crate::specs::Checks::asked_laws))]
 pub fn check_ability(
     ty: TypeRef,
-    unit: &UnitView<'_>,
+    unit: &UnitView<'_, '_>,
     ability: Ability,
     status: StatusCode,
 ) -> PartialVMResult<()>
@@ -86,7 +86,7 @@ pub fn check_ability(
 // The same of a struct with these type arguments. It is not written out to be asked.
 #[tactic(auto, using(crate::specs::Checks::asked_laws))]
 pub fn check_struct_ability(
-    unit: &UnitView<'_>,
+    unit: &UnitView<'_, '_>,
     h: StructHandleIndex,
     type_args: SignatureView,
     ability: Ability,

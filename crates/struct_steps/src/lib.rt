@@ -1,5 +1,6 @@
 // `pack` and `unpack` of type_safety.rs: every field is instantiated before one is compared or pushed. `looked` is what the
-// instruction's look-up answered, of a struct that is not generic or of a generic one: the refusal, where it was refused.
+// instruction's look-up answered, of a struct that is not generic or of a generic one: the refusal, where it was refused. It is tested here, once, and
+// not by each of the two callers that a step has.
 #![tactic(auto)]
 
 ghost use Rattle.std.specs.Prelude.{◌≤◌, length, IfOk};

@@ -37,7 +37,7 @@ fn size_of_argument(argument: TypeRef, len: usize) -> usize
     grown(len, argument.end() - argument.at)
 }
 
-// `instantiate`: the size of the types together, their parameters replaced. A parameter's number past the arguments is refused. A type inside
+// `instantiate`, which has the type and its arguments as two parameters too: the size of the types together, their parameters replaced. A parameter's number past the arguments is refused. A type inside
 // another is counted as one more of those that are left, so that nothing calls itself; their number rises and falls, which no `for` counts.
 #[tactic(auto, using(crate::specs::Counting::counted_done))]
 pub fn instantiated_sizes(types: TypeList, args: TypePlaces) -> PartialVMResult<Size>

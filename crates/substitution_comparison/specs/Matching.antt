@@ -6,13 +6,14 @@ use Rattle.std.proofs.Common.{sym, ◌∙◌, append-nil, arith, length-append}
 use Rattle.std.proofs.Math.Path.{ap}
 use Rattle.definitions.specs.Result.{Result, ok, ◌>>?◌}
 use Rattle.definitions.specs.SignatureToken.{SignatureTokens, Signature, encode}
-use Rattle.definitions.specs.Places.{At, TypeAt, TypesAt, EndOfType}
-use Rattle.theorems.specs.AtLaws.{at_part, at_room, at_front, at_back}
+use Rattle.definitions.specs.Places.{At, TypeAt, TypesAt}
+use Rattle.theorems.specs.AtLaws.{at_room, at_front, at_back}
 use Rattle.theorems.specs.Bytes.{one_type as one_here}
 use Rattle.file_format.specs.declared.StructHandleIndex.{StructHandleIndex}
 use Rattle.signature_token.specs.declared.Wrapper.{Wrapper}
 use Rattle.signature_token.specs.declared.Token.{Token}
 use Rattle.signature_token.specs.declared.Token.TheVariants.{Leaf, Wrapped, Struct, StructInstantiation, TypeParameter}
+use Rattle.signature_token.specs.Encoded.{Encoded}
 use Rattle.signature_token.specs.Token.{TokenAt, at_some}
 use Rattle.signature_token.specs.TokenLaws.{wrapped_at, instantiation_at, none_is}
 use Rattle.signature_token.specs.Lists.{Left, type_left}
@@ -84,13 +85,9 @@ pub ruleset parts = (part_yes, part_no)
 -- ── an argument ──
 
 pub argument_matched :
-    {s : List ℕ} {w : ℕ} {args : List ℕ} {from x j m : ℕ} {r : Option Match} → EndOfType args from m →
-    PartMatched s w (take (m - from) (drop from args)) x j r → ArgumentMatched s w args from x j r
-argument_matched {from = from} {m = m} ends h = record {
-  is = λ p.
-      let long : m - from ≡ length (encode p.type) = omega (arith, ends p) in
-      rw (long, at_part (encode p.type) p.stands) at h;
-}
+    {s : List ℕ} {w : ℕ} {args : List ℕ} {from x j : ℕ} {bs : List ℕ} {r : Option Match} → Encoded args from bs → PartMatched s w bs x j r →
+    ArgumentMatched s w args from x j r
+argument_matched is h = record { is = λ p. rw (is p) at h }
 
 -- ── the first type ──
 

@@ -10,8 +10,8 @@ use signature_token::{Token, TypeList, TypeRef};
 use status::PartialVMResult;
 use type_places::TypePlaces;
 
-// What a type gives stands at a place of other bytes: where it ends there, where the next type stands, and how many types are left. That the place is
-// within the bytes is asked of each turn, since the bytes and a place in them are two values of the loop.
+// What is known after a part of the type was found in the other bytes: where it ends there, where the next type stands, and how many types are left. That
+// the place is within the bytes is asked of each turn, since the bytes and a place in them are two values of the loop.
 #[derive(Clone, Copy)]
 struct Match {
     reached: usize,
@@ -19,7 +19,7 @@ struct Match {
     left: usize,
 }
 
-// The match of the part with the bytes at e of s, if they are the same. `next` and `left` are handed on.
+// The match of the part with the bytes at e of s, if they are the same. `next` and `left` are those of the answer.
 #[tactic(auto, using(crate::specs::Matching::parts))]
 fn match_part(s: &[u8], e: usize, part: &[u8], next: usize, left: usize) -> Option<Match>
     requires { e ≤ length s.now }
@@ -41,8 +41,7 @@ fn match_argument(s: &[u8], e: usize, argument: TypeRef, next: usize, left: usiz
     requires { e ≤ length s.now }
     ensures { ArgumentMatched s.now e argument.entry.bytes.now argument.entry.at next left result }
 {
-    let end = argument.end();
-    match_part(s, e, &argument.bytes[argument.at..end], next, left)
+    match_part(s, e, argument.encoded(), next, left)
 }
 
 // The same of the first of the types that are left: its own bytes, or those of the argument. What is inside it is left in its place. There is
@@ -105,7 +104,7 @@ fn compare_walked(found: TypeRef, ty: TypeRef, args: TypePlaces) -> PartialVMRes
 }
 
 // `instantiate` and `==`: whether the type that was found is the other one, its parameters replaced. A parameter's number past the arguments
-// comes first. A leaf has its own way, since most types are leaves: it saves the calls into the walks.
+// comes first. A leaf is compared at once, since most types are leaves: it saves the calls into the walks.
 #[tactic(auto, using(crate::specs::Compare::leaf_compared))]
 pub fn compare_instantiated(found: TypeRef, ty: TypeRef, args: TypePlaces) -> PartialVMResult<bool>
     ensures { ComparedAt found.entry.bytes.now found.entry.at ty.entry.bytes.now ty.entry.at args.entry.bytes.now args.entry.places.now result }

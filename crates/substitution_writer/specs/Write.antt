@@ -4,12 +4,12 @@ use Rattle.std.proofs.Common.{sym, ap, ◌∙◌, arith, length-append}
 use Rattle.std.proofs.lemmas.List.Edits.{sets}
 use Rattle.std.proofs.Math.Seq.{length-sets}
 use Rattle.definitions.specs.SignatureToken.{encode, encode_all}
-use Rattle.definitions.specs.Places.{TypeAt, EndOfType}
-use Rattle.theorems.specs.AtLaws.{at_part}
+use Rattle.definitions.specs.Places.{TypeAt}
 use Rattle.file_format.specs.declared.StructHandleIndex.{StructHandleIndex}
 use Rattle.signature_token.specs.declared.Wrapper.{Wrapper}
 use Rattle.signature_token.specs.declared.Token.{Token}
 use Rattle.signature_token.specs.declared.Token.TheVariants.{Leaf, Wrapped, Struct, StructInstantiation, TypeParameter}
+use Rattle.signature_token.specs.Encoded.{Encoded}
 use Rattle.signature_token.specs.Token.{TokenAt, at_some}
 use Rattle.signature_token.specs.TokenLaws.{leaf_byte}
 use Rattle.signature_token.specs.Ends.{leaf_end, struct_end, parameter_end}
@@ -100,17 +100,9 @@ module _ {ty : List ℕ} {at : ℕ} {r : Token} (t : TokenAt ty at r) {args plac
 
 -- ── arguments ──
 
-module _ {args : List ℕ} {from : ℕ} where
-  pub argument_wrote : {w : ℕ} {d d' : List ℕ} {e x : ℕ} → EndOfType args from x → Put d w (take (x - from) (drop from args)) d' e → ArgumentWritten args from w d d' e
-  argument_wrote {w} {d} {d'} {e} {x} f c = record {
-    reached = λ p. let h = is p in omega (arith, h.reached);
-    now = λ p. (is p).now;
-  }
-    where
-      is : (p : TypeAt args from) → Put d w (encode p.type) d' e
-      is p =
-          let z : x - from ≡ length (encode p.type) = omega (arith, f p) in
-          rw (z, at_part (encode p.type) p.stands) at c
+pub argument_wrote :
+    {args : List ℕ} {from : ℕ} {bs : List ℕ} {w : ℕ} {d d' : List ℕ} {e : ℕ} → Encoded args from bs → Put d w bs d' e → ArgumentWritten args from w d d' e
+argument_wrote is c = record { reached = λ p. rw (is p) at c.reached; now = λ p. rw (is p) at c.now }
 
 -- ── lists ──
 

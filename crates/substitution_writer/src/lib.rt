@@ -1,5 +1,5 @@
 // `instantiate` of type_safety.rs over a type's bytes, as a writer: the type with its parameters replaced is written into a lent slice that
-// has room for it.
+// has room for it. That it has is asked of each function: of what is behind a `&mut` a ghost field says nothing.
 #![tactic(auto)]
 
 ghost use Rattle.std.specs.Prelude.{◌+◌, ◌≤◌, length};
@@ -10,7 +10,8 @@ ghost use Rattle.substitution_writer.specs.Write.{ArgumentWritten, WroteFrom, Wr
 use signature_token::{Token, TypeList, TypeRef};
 use type_places::TypePlaces;
 
-// Where a type ends among the bytes that it is read from, and where its bytes end that were written.
+// Where a type ends among the bytes that it is read from, and where its bytes end that were written: a place, where `Size` of substitution has a
+// number of bytes that stops at 65,536. One type for both would let them be exchanged.
 #[derive(Clone, Copy)]
 pub struct Reached {
     pub next: usize,
@@ -35,8 +36,7 @@ fn write_argument(out: &mut [u8], w: usize, argument: TypeRef) -> usize
     requires { ArgumentRoom argument.bytes.now argument.at w (length out.old) }
     ensures { ArgumentWritten argument.entry.bytes.now argument.entry.at w out.old out.new result }
 {
-    let end = argument.end();
-    put(out, w, &argument.bytes[argument.at..end])
+    put(out, w, argument.encoded())
 }
 
 // Writes the type, its parameters replaced, into out at w.
@@ -101,7 +101,7 @@ fn write_types(out: &mut [u8], w: usize, types: TypeList, args: TypePlaces) -> R
     }
 }
 
-// `instantiate`: writes the type, its parameters replaced, to the front of out. A leaf has its own way, since most types are leaves: it saves
+// `instantiate`: writes the type, its parameters replaced, to the front of out. A leaf is written at once, since most types are leaves: it saves
 // the call into the walk.
 #[tactic(auto, using(crate::specs::Write::wrote_at, crate::specs::Write::leaf_at_front))]
 pub fn instantiate_into(out: &mut [u8], ty: TypeRef, args: TypePlaces) -> Reached

@@ -1,5 +1,5 @@
 // What a type's command alone tells of the type: how many bytes it has, where no other type stands inside, and whether it stands around one
-// other. The answers are numbers that are added and not cases that are decided: which of them a type is, the processor foresees badly.
+// other. The answers are numbers that are added and not cases that are decided, since a decision over a type's command is often predicted wrongly.
 #![tactic(auto)]
 
 ghost use Rattle.std.specs.Prelude.{◌≡◌};

@@ -1,4 +1,4 @@
-// How many levels a type nests, and the deepest type of a list.
+// How many levels a type nests, and the deepest type of a list. The passes do not ask: it shows that the definitions' depth is found from bytes.
 #![tactic(auto)]
 
 ghost use Rattle.type_nesting.specs.Nesting.{NestingAt, NestingsAt};

@@ -19,7 +19,7 @@ pub fn put_command(area: &mut [u8], weight: usize, command: u8)
     area[weight] = command;
 }
 
-// The first byte of a reference, mutable or not. `mutable` is the Rust's own parameter `mut_` of the borrows, and the definitions' too: a type for
+// The first byte of a reference, mutable or not: document 01's 0B and 0A. `mutable` is the Rust's own parameter `mut_` of the borrows, and the definitions' too: a type for
 // its two values would be made of it by each caller.
 #[tactic(auto, using(crate::specs::References::commands))]
 pub fn reference_command(mutable: bool) -> u8
@@ -42,8 +42,8 @@ pub fn seal(area: &mut [u8], weight: usize, len: usize) -> usize
     weight + (len + 2)
 }
 
-// Pushes the type of one byte. Whether there is room is tested here and in each push, in a line: asked of a function it would take that line and its
-// promise.
+// Pushes the type of one byte. Whether there is room is tested here and in each push: a function for the test would answer a Result, with a
+// promise of its own, to spare a comparison.
 #[tactic(auto, using(type_stack::specs::Pushing::pushing))]
 pub fn push_leaf(area: &mut [u8], weight: usize, command: u8) -> PartialVMResult<usize>
     requires { Stacked area.old weight }

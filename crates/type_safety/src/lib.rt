@@ -25,7 +25,8 @@ pub struct Types {
     pub clean: bool,
 }
 
-// A block, from the stack that the last one left.
+// A block, from the stack that the last one left. Not `first..=last`: such a loop is left at two places, and what holds at its end would be proved for
+// each.
 #[tactic(auto, using(crate::specs::Walks::in_block_refused))]
 fn verify_block(area: &mut [u8], weight: usize, locals: &Locals<'_>, block: Block) -> Walk
     requires stacked { Stacked area.old weight }
@@ -63,7 +64,7 @@ fn verify_blocks(area: &mut [u8], locals: &Locals<'_>) -> Types
                 clean &= next == 0;
             }
             Err(stopped) => {
-                let position = Position::Instruction(stopped.offset as u16);
+                let position = Position::Instruction(stopped.offset as u16); // fits, which is proved
                 return Types {
                     verdict: status::refusal_at(stopped.status, position),
                     clean: false,
@@ -78,7 +79,7 @@ fn verify_blocks(area: &mut [u8], locals: &Locals<'_>) -> Types
 }
 
 // `verify`. The places are kept in two arrays, since no heap is used.
-pub fn verify(area: &mut [u8], unit: &UnitView<'_>) -> Types
+pub fn verify(area: &mut [u8], unit: &UnitView<'_, '_>) -> Types
     requires { length area.old ≤ 65535 }
     ensures { TypesOf (compiled unit.now) (length area.old) result }
 {

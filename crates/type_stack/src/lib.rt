@@ -1,6 +1,7 @@
 // The stack of types in the lent area: entries from the bottom up, each its type's bytes and then their length as a u16. A stack's
 // weight is the number of its bytes. Here are the pops, and how a walk ends; the pushes are type_pushes and copied_pushes. A step answers the
-// weight of the stack after it.
+// weight of the stack after it. That a stack stands in the area is asked of each step and not kept by a struct of the two: of what is behind a `&mut` a
+// ghost field says nothing, and a struct for the steps that only read would be made anew for each.
 #![tactic(auto)]
 
 ghost use Rattle.std.specs.Prelude.{◌≡◌};
@@ -16,7 +17,8 @@ pub struct Entry {
     pub len: usize,
 }
 
-// Where a walk over instructions stops: the refusal, the instruction's offset, and the weight of the stack before it, which still stands.
+// Where a walk over instructions stops: the refusal, the instruction's offset, and the weight of the stack before it, which still stands and by
+// which the promise speaks of it.
 #[derive(Clone, Copy)]
 pub struct Stopped {
     pub status: StatusCode,
@@ -27,8 +29,8 @@ pub struct Stopped {
 // How a walk over instructions ends: the weight of the stack after the last, or where it stops.
 pub type Walk = Result<usize, Stopped>;
 
-// The same answer, made anew from its parts. For a step that gives the answer of another function as its own: an answer that was just written
-// in parts and is copied whole makes the processor wait, longer than a short step takes.
+// The same answer, made anew from its parts. For a step that gives the answer of another function as its own: a copy of an
+// answer as a whole, just after its parts were written, takes longer than a short step does.
 pub fn rebuilt(answer: PartialVMResult<usize>) -> PartialVMResult<usize>
     ensures { result ≡ answer }
 {

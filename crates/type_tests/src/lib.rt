@@ -6,7 +6,8 @@ ghost use Rattle.type_tests.specs.Kinds.{ReferentAt, IntegerAt, LeafAt};
 
 use signature_token::{Token, TypeRef, Wrapper};
 
-// Whether the type of len bytes at x of a is that one. Where that one ends is not asked: bytes begin with one type at most.
+// Whether the type of len bytes at x of a is that one. Where that one ends is not asked: bytes begin with one type at most. By place and length, as an
+// entry of the stack has them, and as the steps' promises speak of it.
 #[tactic(auto, using(signature_token::specs::Kept::within, signature_token::specs::Same::same_starts))]
 pub fn same_type(a: &[u8], x: usize, len: usize, ty: TypeRef) -> bool
     requires { Spans a.now x len }
@@ -16,7 +17,7 @@ pub fn same_type(a: &[u8], x: usize, len: usize, ty: TypeRef) -> bool
 }
 
 // What a type refers to: where that stands, by which kind of reference; or that it is no reference. Not an Option of a pair: document 01 asks for
-// an enum to be matched by `let .. else`, since most users take one of the three ways.
+// an enum to be matched by `let .. else`.
 #[derive(Clone, Copy)]
 pub enum Referent {
     Reference(usize),
@@ -35,7 +36,7 @@ pub fn referent_of(ty: TypeRef) -> Referent
     }
 }
 
-// Whether the type is u8, u64 or u128.
+// Whether the type is u8, u64 or u128: document 01's commands 2, 3 and 4.
 pub fn is_integer(ty: TypeRef) -> bool
     ensures { IntegerAt ty.entry.bytes.now ty.entry.at result }
 {

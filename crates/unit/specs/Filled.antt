@@ -17,7 +17,7 @@ head_of Head.Module = defs.Module
 head_of Head.Script = defs.Script
 
 -- the index has room for what starts at the byte `from`: no more entries stand below base than bytes below from. It is asked of each function that
--- fills the index, which is lent as `&mut`, beside which no ghost field stands
+-- fills the index, which is lent as `&mut`: of what is behind one a ghost field says nothing
 pub record Room (s : List ℕ) (from base : ℕ) (index : List ℕ) : Type 0 where
   pub below : base ≤ from
   pub inside : from ≤ length s

@@ -1,5 +1,5 @@
 // The reader of a unit. It fills an index with the place of each record of a table, each block and each instruction, so that no look-up scans
-// a table.
+// a table. Bytes, index and the place of the next entry are parameters: the index is lent as `&mut`, of which a ghost field says nothing.
 #![tactic(auto)]
 
 ghost use Rattle.std.specs.Prelude.{◌≡◌, ℕ, ◌+◌, ◌≤◌, ◌<◌, length, get_or, replicate};
@@ -19,7 +19,7 @@ pub enum Head {
     Script,
 }
 
-// A table's entries in the index: the places of its records.
+// A table's entries in the index: the places of its records. By number, and no slice, since the view outlives the loan of the index to the reader.
 #[derive(Clone, Copy)]
 pub struct Table {
     pub base: u16,
@@ -78,8 +78,8 @@ fn is_known(head: Head, command: u8) -> bool
     }
 }
 
-// The records of one command, whose bodies `read_body` reads by it: the loop over the commands has no function for each to hand on. The place of
-// each goes into the index, from base on. Each begins where the one before it ends, so that no range names the places.
+// The records of one command, whose bodies `read_body` reads by it: the commands are the numbers of document 01, over which `read_tables` counts. The place
+// of each goes into the index, from base on. Each begins where the one before it ends, so that no range names the places.
 fn read_table(
     s: &[u8],
     from: usize,
@@ -124,7 +124,7 @@ fn read_tables(
     let mut at = 1usize;
     let mut base = 0usize;
     for i in 0..9usize {
-        let table = read_table(s, at, head, 0x10 + i as u8, index, base)?;
+        let table = read_table(s, at, head, 0x10 + i as u8, index, base)?; // fits, which is proved
         base += table.count;
         bases[i + 1] = base;
         at = table.next;

@@ -10,11 +10,13 @@ ghost use Rattle.unit_tables.specs.Tables.{Fits, EntryIs, PastIs};
 use status::{PartialVMResult, StatusCode};
 use unit::{Head, Table, View};
 
-// A unit that was read, beside `BinaryIndexedView` of binary_views.rs: its bytes, and where its records and instructions stand in them.
+// A unit that was read, beside `BinaryIndexedView` of binary_views.rs: its bytes, and where its records and instructions stand in them. The bytes are lent
+// for a time of their own: what a look-up finds stands in them, and may be kept when the index is filled anew. Look-ups are functions over the view, not
+// methods, since each crate has its own and a type's methods stand with it.
 #[derive(Clone, Copy)]
-pub struct UnitView<'a> {
+pub struct UnitView<'a, 'i> {
     pub bytes: &'a [u8],
-    pub index: &'a [u16],
+    pub index: &'i [u16],
     pub view: View,
     // Each is a byte. A function that is lent the struct knows that only from here.
     pub ghost small: { (i : ℕ) → get_or bytes.now i 0 < 256 },
@@ -22,7 +24,7 @@ pub struct UnitView<'a> {
     pub ghost read: { ReadAs (read_unit bytes.now) index.now view } by { ReadAs-prop view-code (read_unit bytes.now) index.now view },
 }
 
-// Where record i of a table stands, by the index.
+// Where record i of a table stands, by the index. No method of a unit that was read: it asks of the index alone.
 pub fn place(index: &[u16], table: Table, i: usize) -> usize
     requires fits { Fits index.now table }
     requires i_lt_count { i < table.count }
@@ -32,10 +34,10 @@ pub fn place(index: &[u16], table: Table, i: usize) -> usize
     usize::from(index[usize::from(table.base) + i])
 }
 
-impl UnitView<'_> {
+impl UnitView<'_, '_> {
     ghost use Rattle.unit_tables.specs.Compiled.{compiled, module_only};
 
-    // The same of a number that may be past the table.
+    // Where record i of a table stands, if the table has so many.
     pub fn look_up(&self, table: Table, i: u16) -> PartialVMResult<usize>
         requires { Fits self.now.index.now table }
         ensures value { MatchResult result (EntryIs self.now.index.now table i) (PastIs table i) }

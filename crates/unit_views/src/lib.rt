@@ -17,7 +17,7 @@ use unit_tables::UnitView;
 
 // No types: what an instruction that is not generic has in place of type arguments.
 #[tactic(auto, using(crate::specs::Lookups::nothing_stands))]
-pub fn no_types<'a>(unit: &UnitView<'a>) -> SignatureView<'a>
+pub fn no_types<'a>(unit: &UnitView<'a, '_>) -> SignatureView<'a>
     ensures are { ListIs [] result }
     ensures in_unit { result.types.bytes.now ≡ unit.now.bytes.now }
 {
@@ -33,7 +33,7 @@ pub fn no_types<'a>(unit: &UnitView<'a>) -> SignatureView<'a>
 // The types of a signature.
 #[tactic(auto, using(crate::specs::Lookups::signature_lookup))]
 pub fn signature_at<'a>(
-    unit: &UnitView<'a>,
+    unit: &UnitView<'a, '_>,
     idx: SignatureIndex,
 ) -> PartialVMResult<SignatureView<'a>>
     ensures value { ResultIs ListIs (defs.signature_at (compiled unit.now) idx.0) result }
@@ -45,7 +45,10 @@ pub fn signature_at<'a>(
 
 // `signature_at(idx).0[0]`: the element type that a vector instruction names.
 #[tactic(auto, using(crate::specs::Lookups::element_lookup))]
-pub fn element_type_at<'a>(unit: &UnitView<'a>, idx: SignatureIndex) -> PartialVMResult<TypeRef<'a>>
+pub fn element_type_at<'a>(
+    unit: &UnitView<'a, '_>,
+    idx: SignatureIndex,
+) -> PartialVMResult<TypeRef<'a>>
     ensures value { ResultIs TypeOf (defs.element_type_at (compiled unit.now) idx.0) result }
     ensures in_unit { IfOk result (λ ty. ty.bytes.now ≡ unit.now.bytes.now) }
 {
@@ -61,7 +64,10 @@ pub fn element_type_at<'a>(unit: &UnitView<'a>, idx: SignatureIndex) -> PartialV
 
 // A constant's type.
 #[tactic(auto, using(crate::specs::Lookups::constant_lookup))]
-pub fn constant_at<'a>(unit: &UnitView<'a>, idx: ConstantPoolIndex) -> PartialVMResult<TypeRef<'a>>
+pub fn constant_at<'a>(
+    unit: &UnitView<'a, '_>,
+    idx: ConstantPoolIndex,
+) -> PartialVMResult<TypeRef<'a>>
     ensures value { ResultIs TypeOf (defs.constant_at (compiled unit.now) idx.0) result }
     ensures in_unit { IfOk result (λ ty. ty.bytes.now ≡ unit.now.bytes.now) }
 {
@@ -75,7 +81,7 @@ pub fn constant_at<'a>(unit: &UnitView<'a>, idx: ConstantPoolIndex) -> PartialVM
 // A struct definition, which a script has none of.
 #[tactic(auto, using(crate::specs::Lookups::def_lookup))]
 pub fn struct_def_at<'a>(
-    unit: &UnitView<'a>,
+    unit: &UnitView<'a, '_>,
     idx: StructDefinitionIndex,
 ) -> PartialVMResult<StructDef<'a>>
     ensures value { ResultIs DefIs (defs.struct_def_at (compiled unit.now) idx.0) result }

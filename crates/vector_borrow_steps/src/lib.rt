@@ -1,5 +1,5 @@
 // VecImmBorrow and VecMutBorrow of type_safety.rs: the element type is looked up before the pops.
-#![tactic(auto, using(operand_steps::specs::Operands::operands, step_views::specs::Looked::types, step_views::specs::Looked::looks, vector_elements::specs::Found::found_short), unfolding(definitions::specs::TypeSafety::borrow_vector_element))]
+#![tactic(auto, using(operand_steps::specs::Operands::operands, step_views::specs::Looked::types, step_views::specs::Looked::looks), unfolding(definitions::specs::TypeSafety::borrow_vector_element))]
 
 ghost use Rattle.definitions.specs.TypeSafety as step;
 ghost use Rattle.type_stack.specs.Held.{Stacked};
@@ -15,7 +15,7 @@ use unit_tables::UnitView;
 pub fn borrow_vector_element(
     area: &mut [u8],
     weight: usize,
-    unit: &UnitView<'_>,
+    unit: &UnitView<'_, '_>,
     idx: SignatureIndex,
     mut_ref_only: bool,
 ) -> PartialVMResult<usize>
@@ -27,7 +27,7 @@ pub fn borrow_vector_element(
     if operand_steps::is_leaf(area, top, U64) {
         if vector_elements::element_is(area, below, declared, mut_ref_only) {
             let command = type_pushes::reference_command(mut_ref_only);
-            let bytes = &declared.bytes[declared.at..declared.end()];
+            let bytes = declared.encoded();
             return copied_pushes::push_wrapped(area, below.start, command, bytes);
         }
     }

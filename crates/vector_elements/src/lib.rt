@@ -57,7 +57,8 @@ pub fn vector_is(area: &[u8], operand: Entry, declared: TypeRef) -> bool
     }
 }
 
-// Whether the operand refers to a vector of the declared type.
+// Whether the operand refers to a vector of the declared type. Its own function beside `vector_is`: another function finds the element, and two
+// bytes stand before it, not one. One function for both would take these two as parameters, and be `same_type` where there is an element.
 #[tactic(auto, using(crate::specs::Elements::elements))]
 pub fn element_is(area: &[u8], operand: Entry, declared: TypeRef, mut_ref_only: bool) -> bool
     requires { Spans area.now operand.start operand.len }

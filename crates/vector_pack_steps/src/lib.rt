@@ -1,6 +1,6 @@
 // VecPack and VecUnpack of type_safety.rs: as many pops or pushes as the instruction says. VecPack looks the element type up before its pops,
 // VecUnpack after its pop.
-#![tactic(auto, using(type_stack::specs::Stepping::pops, operand_steps::specs::Operands::operands, step_views::specs::Looked::types, step_views::specs::Looked::looks, vector_elements::specs::Found::found_short), unfolding(definitions::specs::TypeSafety::vec_pack, definitions::specs::TypeSafety::vec_unpack))]
+#![tactic(auto, using(type_stack::specs::Stepping::pops, operand_steps::specs::Operands::operands, step_views::specs::Looked::types, step_views::specs::Looked::looks), unfolding(definitions::specs::TypeSafety::vec_pack, definitions::specs::TypeSafety::vec_unpack))]
 
 ghost use Rattle.std.specs.Prelude.{◌≤◌, length};
 ghost use Rattle.definitions.specs.Machine.{pop_n};
@@ -11,6 +11,7 @@ ghost use Rattle.unit_tables.specs.Compiled.{compiled};
 ghost use Rattle.vector_pack_steps.specs.Many.{PushesMany};
 
 use file_format::SignatureIndex;
+use numbers::wide64;
 use signature_token::VECTOR;
 use status::{PartialVMResult, StatusCode};
 use unit_tables::UnitView;
@@ -35,8 +36,8 @@ fn push_many(area: &mut [u8], weight: usize, bytes: &[u8], num: u64) -> PartialV
     requires short { length bytes.now ≤ 65535 }
     ensures { PushesMany num bytes.now area.old weight area.new result }
 {
-    let fit = (area.len() - weight) / (bytes.len() + 2);
-    if (fit as u64) < num {
+    let fit = wide64((area.len() - weight) / (bytes.len() + 2));
+    if fit < num {
         return Err(StatusCode::NO_ROOM);
     }
     let mut end = weight;
@@ -50,7 +51,7 @@ fn push_many(area: &mut [u8], weight: usize, bytes: &[u8], num: u64) -> PartialV
 pub fn vec_pack(
     area: &mut [u8],
     weight: usize,
-    unit: &UnitView<'_>,
+    unit: &UnitView<'_, '_>,
     idx: SignatureIndex,
     num: u64,
 ) -> PartialVMResult<usize>
@@ -59,15 +60,14 @@ pub fn vec_pack(
 {
     let element = unit_views::element_type_at(unit, idx)?;
     let below = pop_many(area, weight, num)?;
-    let bytes = &element.bytes[element.at..element.end()];
-    copied_pushes::push_wrapped(area, below, VECTOR, bytes)
+    copied_pushes::push_wrapped(area, below, VECTOR, element.encoded())
 }
 
 // `VecUnpack`.
 pub fn vec_unpack(
     area: &mut [u8],
     weight: usize,
-    unit: &UnitView<'_>,
+    unit: &UnitView<'_, '_>,
     idx: SignatureIndex,
     num: u64,
 ) -> PartialVMResult<usize>
@@ -77,8 +77,7 @@ pub fn vec_unpack(
     let top = type_stack::pop(area, weight)?;
     let declared = unit_views::element_type_at(unit, idx)?;
     if vector_elements::vector_is(area, top, declared) {
-        let bytes = &declared.bytes[declared.at..declared.end()];
-        return push_many(area, top.start, bytes, num);
+        return push_many(area, top.start, declared.encoded(), num);
     }
     Err(StatusCode::TYPE_MISMATCH)
 }

@@ -21,7 +21,7 @@ use unit_tables::UnitView;
 fn named_element<'a>(
     area: &[u8],
     operand: Entry,
-    unit: &UnitView<'a>,
+    unit: &UnitView<'a, '_>,
     idx: SignatureIndex,
     mut_ref_only: bool,
 ) -> PartialVMResult<TypeRef<'a>>
@@ -40,7 +40,7 @@ fn named_element<'a>(
 pub fn vec_len(
     area: &mut [u8],
     weight: usize,
-    unit: &UnitView<'_>,
+    unit: &UnitView<'_, '_>,
     idx: SignatureIndex,
 ) -> PartialVMResult<usize>
     requires { Stacked area.old weight }
@@ -55,7 +55,7 @@ pub fn vec_len(
 pub fn vec_push_back(
     area: &[u8],
     weight: usize,
-    unit: &UnitView<'_>,
+    unit: &UnitView<'_, '_>,
     idx: SignatureIndex,
 ) -> PartialVMResult<usize>
     requires { Stacked area.now weight }
@@ -72,11 +72,11 @@ pub fn vec_push_back(
 }
 
 // `VecPopBack`.
-#[tactic(auto, using(type_stack::specs::Stepping::pops, operand_steps::specs::Operands::operands, step_views::specs::Looked::types, vector_elements::specs::Found::found_short), unfolding(definitions::specs::TypeSafety::vec_pop_back))]
+#[tactic(auto, using(type_stack::specs::Stepping::pops, operand_steps::specs::Operands::operands, step_views::specs::Looked::types), unfolding(definitions::specs::TypeSafety::vec_pop_back))]
 pub fn vec_pop_back(
     area: &mut [u8],
     weight: usize,
-    unit: &UnitView<'_>,
+    unit: &UnitView<'_, '_>,
     idx: SignatureIndex,
 ) -> PartialVMResult<usize>
     requires { Stacked area.old weight }
@@ -84,14 +84,14 @@ pub fn vec_pop_back(
 {
     let top = type_stack::pop(area, weight)?;
     let element = named_element(area, top, unit, idx, true)?;
-    copied_pushes::push_part(area, top.start, &element.bytes[element.at..element.end()])
+    copied_pushes::push_part(area, top.start, element.encoded())
 }
 
 // `VecSwap`: both indexes are tested before the signature is looked up.
 pub fn vec_swap(
     area: &[u8],
     weight: usize,
-    unit: &UnitView<'_>,
+    unit: &UnitView<'_, '_>,
     idx: SignatureIndex,
 ) -> PartialVMResult<usize>
     requires { Stacked area.now weight }

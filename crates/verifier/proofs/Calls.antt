@@ -1,5 +1,5 @@
 -- The ways that a call goes: the area is too long; or the unit is refused by the reader, or was read and is judged.
-use mathlib.Core.Path.{◌≡◌, sym, ◌∙◌}
+use mathlib.Core.Path.{◌≡◌, refl, sym, ◌∙◌}
 use mathlib.Core.List.{List}
 use Prim.Native.Nat.{ℕ, ◌≤◌, ◌<◌}
 use borrow.Author.Tests.{le-leb, lt-leb}
@@ -40,9 +40,13 @@ judged_reading u judge q = rw u.reads q
 -- ── both passes ──
 
 module _ (u : CompiledUnit) (n : ℕ) {r : Verdict} (k : r ≡ stack_usage u) where
-  pub usage_refused : {w : StatusCode} {p : Position} → r ≡ Refused w p → Refused w p ≡ both_passes u n
+  pub usage_refused : (r ≡ Accepted → ⊥) → r ≡ both_passes u n
   unfolding both_passes
-  usage_refused e = rw (sym k ∙ e)
+  usage_refused refused = go r refl
+    where
+      go : (v : Verdict) → r ≡ v → r ≡ both_passes u n
+      go Accepted e = absurd (refused e)
+      go (Refused w p) e = e ∙ rw (sym k ∙ e)
 
   pub usage_accepted : r ≡ Accepted → {v : Verdict} → v ≡ type_safety u n → v ≡ both_passes u n
   unfolding both_passes

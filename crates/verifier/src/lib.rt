@@ -1,6 +1,6 @@
 // The public calls of document 01: read a unit, stack usage, types, and both. They ask nothing of their caller. An area that is too long is
 // refused before the unit is looked at; else the call leaves zeros in the whole area. That it is short enough is asked below of each function that
-// writes it: no ghost field stands beside a `&mut`.
+// writes it, and not kept by a struct: of what is behind a `&mut` a ghost field says nothing.
 #![tactic(auto)]
 
 ghost use Rattle.std.specs.Prelude.{◌≡◌, ◌≤◌, length};
@@ -20,7 +20,7 @@ trait Passes {
     // the definitions' verdict on the unit, by the area's length
     ghost judge: { Judge };
 
-    fn run(unit: &UnitView<'_>, area: &mut [u8]) -> Verdict
+    fn run(unit: &UnitView<'_, '_>, area: &mut [u8]) -> Verdict
         requires { length area.old ≤ 65535 }
         ensures { result ≡ judge (length area.old) (compiled unit.now) };
 }
@@ -31,7 +31,7 @@ struct NoPass;
 impl Passes for NoPass {
     ghost judge = { λ area u. Accepted };
 
-    fn run(_unit: &UnitView<'_>, _area: &mut [u8]) -> Verdict {
+    fn run(_unit: &UnitView<'_, '_>, _area: &mut [u8]) -> Verdict {
         Verdict::Accepted
     }
 }
@@ -42,7 +42,7 @@ struct StackUsage;
 impl Passes for StackUsage {
     ghost judge = { λ area u. stack_usage u };
 
-    fn run(unit: &UnitView<'_>, _area: &mut [u8]) -> Verdict {
+    fn run(unit: &UnitView<'_, '_>, _area: &mut [u8]) -> Verdict {
         stack_usage_verifier::verify(unit)
     }
 }
@@ -53,7 +53,7 @@ struct Types;
 impl Passes for Types {
     ghost judge = { λ area u. type_safety u area };
 
-    fn run(unit: &UnitView<'_>, area: &mut [u8]) -> Verdict {
+    fn run(unit: &UnitView<'_, '_>, area: &mut [u8]) -> Verdict {
         type_safety::verify(area, unit).verdict
     }
 }
@@ -65,14 +65,14 @@ struct Both;
 impl Passes for Both {
     ghost judge = { λ area u. both_passes u area };
 
-    fn run(unit: &UnitView<'_>, area: &mut [u8]) -> Verdict {
+    fn run(unit: &UnitView<'_, '_>, area: &mut [u8]) -> Verdict {
         let types = type_safety::verify(area, unit);
         if types.clean {
             return Verdict::Accepted;
         }
         match stack_usage_verifier::verify(unit) {
-            Verdict::Refused(status, position) => Verdict::Refused(status, position),
             Verdict::Accepted => types.verdict,
+            refused => refused,
         }
     }
 }

@@ -9,7 +9,7 @@ ghost use Rattle.wavgrut.specs.Packed.{packed};
 use status::Verdict;
 
 // A verdict as one number: document 01's number in bits 0 to 7, the letter in bits 8 to 15, the place in bits 16 to 31. An impl of
-// From would have to stand in crate status, which knows nothing of C.
+// From would have to stand in crate status, which has no part of the C interface.
 fn pack(verdict: Verdict) -> u64
     ensures { result ≡ packed verdict }
 {

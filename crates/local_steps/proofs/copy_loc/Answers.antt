@@ -2,6 +2,7 @@
 use Rattle.definitions.specs.TypeSafety as step
 use Rattle.type_stack.specs.Answers.{exit_is}
 use Rattle.type_stack.specs.Stepping.{check_then, check_bad}
+use Rattle.signature_token.specs.Encoded.{type_bytes}
 use Rattle.copied_pushes.specs.Standing.{push_declared}
 use Rattle.step_views.specs.Looked.{looked_then}
 use Rattle.step_views.specs.Checks.{ability_then, ability_bad}
@@ -20,4 +21,4 @@ unfolding step.copy_loc
 returns c =
     looked_then _ c.in_ok-local.ensures
     (λ t l. ability_then (c.in_ok-check_ability.ensures (local_here l))
-    (λ set h. check_then _ _ h (push_declared (local_here l) l.ends c.push_part.ensures)))
+    (λ set h. check_then _ _ h (push_declared (local_here l) (type_bytes l.ends) c.push_part.ensures)))

@@ -3,6 +3,7 @@ use Rattle.std.specs.Prelude.{not}
 use mathlib.Core.Path.{ap, ◌∙◌}
 use Rattle.definitions.specs.TypeSafety as step
 use Rattle.type_stack.specs.Stepping.{check_then, check_bad}
+use Rattle.signature_token.specs.Encoded.{type_bytes}
 use Rattle.copied_pushes.specs.Standing.{push_reference}
 use Rattle.step_views.specs.Looked.{looked_then}
 use Rattle.locals.specs.Locals.{local_here}
@@ -20,4 +21,4 @@ unfolding step.borrow_loc
 returns c =
     looked_then _ c.in_ok-local.ensures
     (λ t l. check_then _ _ (not_reference c.inner_of.ensures (local_here l) c.is_some.ensures ∙ ap not c.if-is_some.false)
-    (push_reference (local_here l) l.ends c.reference_command-command.ensures c.push_wrapped.ensures))
+    (push_reference (local_here l) (type_bytes l.ends) c.reference_command-command.ensures c.push_wrapped.ensures))

@@ -3,7 +3,8 @@ use Rattle.std.specs.Prelude.{refl}
 use Rattle.definitions.specs.TypeSafety as step
 use Rattle.type_stack.specs.Answers.{exit_is}
 use Rattle.type_stack.specs.Stepping.{look_then, look_bad}
-use Rattle.operand_steps.specs.Operands.{top_span, top_under}
+use Rattle.type_stack.specs.Tops.{top_under}
+use Rattle.operand_steps.specs.Operands.{top_span}
 use Rattle.step_views.specs.Looked.{struct_given, struct_refused}
 use Rattle.struct_steps.specs.Packing.{fields_bad, unpack_then, struct_none, struct_other, struct_popped}
 use Rattle.struct_steps.proofs.unpack.Goals as goal

@@ -6,7 +6,7 @@ use Rattle.signature_token.specs.TokenLaws.{is_u64}
 use Rattle.type_stack.specs.Answers.{exit_is}
 use Rattle.type_stack.specs.Stepping.{two_none, two_then, check_then, check_bad}
 use Rattle.operand_steps.specs.Operands.{operand}
-use Rattle.copied_pushes.specs.Standing.{type_end, push_reference}
+use Rattle.copied_pushes.specs.Standing.{push_reference}
 use Rattle.step_views.specs.Looked.{type_then}
 use Rattle.vector_elements.specs.Elements.{element_then, element_bad}
 use Rattle.vector_borrow_steps.proofs.borrow_vector_element.Goals as goal
@@ -15,9 +15,6 @@ pub returns-in_err-top : goal.returns-in_err-top
 unfolding step.borrow_vector_element
 returns-in_err-top c = rw (exit_is c.from_residual-in_err-top.ensures.1) (type_then _ c.in_ok-declared.ensures.value (λ q. two_none c.in_err-top.ensures _))
 
-pub slice_bounds-bytes-end : goal.slice_bounds-bytes-end
-slice_bounds-bytes-end c = type_end c.in_ok-declared.declared.stands c.end.ensures
-
 pub returns-then-element_is : goal.returns-then-element_is
 unfolding step.borrow_vector_element
 returns-then-element_is c =
@@ -25,7 +22,7 @@ returns-then-element_is c =
     (λ q. two_then c.in_ok-top.ensures
     (λ t u h g. check_then _ _ (sym (c.is_leaf.ensures (operand h) U64 is_u64) ∙ c.if-is_leaf.true)
     (element_then c.element_is.ensures g q _ c.if-element_is.true
-    (push_reference q c.end.ensures c.reference_command-command.ensures c.push_wrapped.ensures))))
+    (push_reference q c.encoded-bytes.ensures.is c.reference_command-command.ensures c.push_wrapped.ensures))))
 
 pub returns-else-element_is : goal.returns-else-element_is
 unfolding step.borrow_vector_element

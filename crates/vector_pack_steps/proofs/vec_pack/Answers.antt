@@ -3,7 +3,6 @@ use mathlib.Core.Path.{refl}
 use Rattle.definitions.specs.TypeSafety as step
 use Rattle.type_stack.specs.Answers.{exit_is}
 use Rattle.type_stack.specs.Stepping.{and_then, and_bad, and_stacked}
-use Rattle.copied_pushes.specs.Standing.{type_end}
 use Rattle.step_views.specs.Looked.{type_then}
 use Rattle.vector_elements.specs.Found.{push_vector}
 use Rattle.vector_pack_steps.proofs.vec_pack.Goals as goal
@@ -13,9 +12,6 @@ unfolding step.vec_pack
 returns-in_err-below c =
     rw (exit_is c.from_residual-in_err-below.ensures.1) (type_then _ c.in_ok-element.ensures.value (λ q. and_bad c.in_err-below.ensures _ refl))
 
-pub slice_bounds-bytes-end : goal.slice_bounds-bytes-end
-slice_bounds-bytes-end c = type_end c.in_ok-element.element.stands c.end.ensures
-
 pub push_wrapped-requires-clause-stacked : goal.push_wrapped-requires-clause-stacked
 push_wrapped-requires-clause-stacked c = and_stacked c.in_ok-below.ensures c.requires refl refl
 
@@ -23,4 +19,4 @@ pub returns : goal.returns
 unfolding step.vec_pack
 returns c =
     type_then _ c.in_ok-element.ensures.value
-    (λ q. and_then c.in_ok-below.ensures _ refl (push_vector q c.end.ensures c.push_wrapped.ensures))
+    (λ q. and_then c.in_ok-below.ensures _ refl (push_vector q c.encoded.ensures.is c.push_wrapped.ensures))

@@ -2,7 +2,7 @@
 use native.Mathlib.Omega.{arith}
 use Rattle.std.specs.Prelude.{length, drop, ◌≤◌, ◌+◌}
 use Rattle.std.proofs.Common.{sym, ◌∙◌, length-append, length-drop, length-take-le}
-use Rattle.materialize_type.proofs.Materialize.{head_long, room_made, written, size_is}
+use Rattle.materialize_type.proofs.Materialize.{head_long, written, size_is}
 use Rattle.materialize_type.proofs.MaterializedType.write_to.Goals as goal
 use Rattle.materialize_type.proofs.MaterializedType.write_to.Goals.{After-arguments-args}
 
@@ -27,9 +27,6 @@ pub copy_from_slice-requires : goal.copy_from_slice-requires
 copy_from_slice-requires c =
     length-take-le c.command_length-k.result c.args.out.now (omega (arith, room (goal.at.copy_from_slice-requires c).After-arguments-args))
     ∙ head_long c.struct_command-command.ensures c.command_length-k.ensures
-
-pub overflow_add-k : goal.overflow_add-k
-overflow_add-k c = omega (arith, room_made c.args.self.type_args.types.stand c.command_length-k.ensures c.arguments-args.ensures)
 
 pub slice_bounds-copy_from_slice-end-4 : goal.slice_bounds-copy_from_slice-end-4
 slice_bounds-copy_from_slice-end-4 c =

@@ -7,8 +7,8 @@ use Rattle.verifier.proofs.BothPasses.run.Goals as goal
 pub returns-then-types : goal.returns-then-types
 returns-then-types c = sym (clean_both _ _ c.requires (c.verify-types.ensures.clean c.if-types.true))
 
-pub returns-in-Refused : goal.returns-in-Refused
-returns-in-Refused c = usage_refused _ _ c.verify.ensures c.in-Refused.is
+pub returns-in_default : goal.returns-in_default
+returns-in_default c = usage_refused _ _ c.verify.ensures c.in_default.not-Accepted
 
 pub returns-in-Accepted : goal.returns-in-Accepted
 returns-in-Accepted c = usage_accepted _ _ c.verify.ensures c.in-Accepted.is c.verify-types.ensures.verdict
