@@ -244,10 +244,6 @@ module _ (s : List ℕ) (l : length s ≤ 32768) where
         go (suc (suc zero)) a b = absurd (b refl)
         go (suc (suc (suc c))) a b = refl
 
--- the index has room for a unit
-pub first_room : {s index : List ℕ} → 0 < length s → length s ≤ 32768 → length s ≤ length index → Room s 1 0 index
-first_room h l w = record { below = omega arith; inside = h; small = l; wide = w }
-
 -- what was read under the head was read of the unit
 pub read_as :
     {r : Result View ReadError} {x : Read Decoded} (index : List ℕ) (y : Read Decoded) → y ≡ x → r ≡ answer_of x → Indexed x index → (r ≡ answer_of y) × Indexed y index

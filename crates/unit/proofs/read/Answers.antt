@@ -1,7 +1,7 @@
 -- `read`: the length and the head are judged first; what is left is `read_under`.
 use Rattle.std.proofs.Common.{sym, ap, ◌∙◌, arith, Err}
 use Rattle.unit.proofs.TableLoop.{same_refusal}
-use Rattle.unit.proofs.Whole.{unit_refused, read_long, read_empty, read_module, read_script, read_unopened, first_room, read_as}
+use Rattle.unit.proofs.Whole.{unit_refused, read_long, read_empty, read_module, read_script, read_unopened, read_as}
 use Rattle.unit.proofs.read.Goals as goal
 
 pub returns-then-s-gt32768 : goal.returns-then-s-gt32768
@@ -15,18 +15,12 @@ returns-in_err-byte_at c =
     let t = unit_refused c.args.index.now _ (read_empty c.args.s.now c.if-s-gt32768.false e.0) in
     record { value = same_refusal c.from_residual.ensures.1 ∙ ap Err e.1 ∙ t.0; indexed = t.1 }
 
-pub read_under-requires : goal.read_under-requires
-read_under-requires c = first_room c.in_ok-byte_at.ensures.0 c.if-s-gt32768.false (c.requires c.if-s-gt32768.false)
-
 pub returns-in-1 : goal.returns-in-1
 returns-in-1 c =
     let b = c.in_ok-byte_at.ensures in
     let r = c.read_under.ensures in
     let t = read_as c.read_under.new.index _ (read_module c.args.s.now c.if-s-gt32768.false b.0 (sym b.1 ∙ c.in-1.is)) r.value r.indexed in
     record { value = t.0; indexed = t.1 }
-
-pub read_under-requires-in-2 : goal.read_under-requires-in-2
-read_under-requires-in-2 c = first_room c.in_ok-byte_at.ensures.0 c.if-s-gt32768.false (c.requires c.if-s-gt32768.false)
 
 pub returns-in-2 : goal.returns-in-2
 returns-in-2 c =
