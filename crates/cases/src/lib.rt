@@ -38,12 +38,20 @@ fn due_in_area(verdict: Verdict) -> u8 {
     }
 }
 
+// Whether every byte is x: the first is, and each other is the same as the one before it. A comparison of slices goes by many bytes at a time.
+fn all(bytes: &[u8], x: u8) -> bool {
+    match bytes {
+        [] => true,
+        [first, rest @ ..] => *first == x && rest == &bytes[..rest.len()],
+    }
+}
+
 // Judges a unit with an area of junk, and writes the verdict and whether the area is as it is due.
 fn judge_in<R: Print>(rt: &R, call: u8, unit: &[u8], area: &mut [u8]) -> io::Result<()> {
     let verdict = verdict_of(call, unit, area);
     println!(rt; "{verdict}")?;
     let due = due_in_area(verdict);
-    if !area.iter().all(|byte| *byte == due) {
+    if !all(area, due) {
         println!(rt; "area")?;
     }
     Ok(())

@@ -14,7 +14,7 @@ pub fn write_part(area: &mut [u8], weight: usize, bytes: &[u8]) -> usize
     ensures { (result ≡ weight + (length bytes.now + 2)) × (area.new ≡ entered area.old weight bytes.now) }
 {
     let len = bytes.len();
-    area[weight..weight + len].copy_from_slice(bytes);
+    byte_parts::copy(&mut area[weight..weight + len], bytes);
     type_pushes::seal(area, weight, len)
 }
 
@@ -48,7 +48,7 @@ pub fn push_wrapped(
         return Err(StatusCode::NO_ROOM);
     }
     type_pushes::put_command(area, weight, command);
-    area[weight + 1..weight + len].copy_from_slice(bytes);
+    byte_parts::copy(&mut area[weight + 1..weight + len], bytes);
     Ok(type_pushes::seal(area, weight, len))
 }
 

@@ -36,6 +36,7 @@ pub trait Form {
 }
 
 // The types as they stand.
+#[derive(Clone, Copy)]
 pub struct Written;
 
 impl Form for Written {

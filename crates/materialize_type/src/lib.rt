@@ -98,8 +98,8 @@ impl<'a> MaterializedType<'a> {
         let command = struct_command(self.struct_handle, self.type_args.types.count);
         let k = command_length(self.type_args.types.count);
         let args = self.arguments();
-        out[..k].copy_from_slice(&command[..k]);
-        out[k..k + args.len()].copy_from_slice(args);
+        byte_parts::copy(&mut out[..k], &command[..k]);
+        byte_parts::copy(&mut out[k..k + args.len()], args);
     }
 
     // `==`: whether it is the type of len bytes at x of s, by place and length as `struct_is` of made_types has them. Lengths first, since most that

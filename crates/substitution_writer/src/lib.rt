@@ -26,7 +26,7 @@ fn put(out: &mut [u8], w: usize, bytes: &[u8]) -> usize
     ensures { Put out.old w bytes.now out.new result }
 {
     let end = w + bytes.len();
-    out[w..end].copy_from_slice(bytes);
+    byte_parts::copy(&mut out[w..end], bytes);
     end
 }
 
