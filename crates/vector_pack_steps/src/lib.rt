@@ -29,7 +29,9 @@ fn pop_many(area: &[u8], weight: usize, num: u64) -> PartialVMResult<usize>
     Ok(below)
 }
 
-// Pushes the type of these bytes num times. That all of them fit is tested at once, and before any is written.
+// Pushes the type of these bytes num times. That all of them fit is tested at once, and before any is written. Not inlined: in the function of all steps
+// its counts would stand in memory, and each turn would wait for them.
+#[inline(never)]
 #[tactic(auto, using(crate::specs::Many::writing))]
 fn push_many(area: &mut [u8], weight: usize, bytes: &[u8], num: u64) -> PartialVMResult<usize>
     requires stacked { Stacked area.old weight }
